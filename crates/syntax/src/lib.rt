@@ -39,9 +39,8 @@ pub enum Unary {
     Minus,
 }
 
-// What a token can be that is no name and no literal.
+// What a token can be that is no name, no literal and no operator of two operands.
 pub enum Symbol {
-    Operator(Binary),
     Exclamation,
     Question,
     Colon,

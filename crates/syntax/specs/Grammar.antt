@@ -1,0 +1,107 @@
+-- The grammar: which tokens are an expression or an ad, and which tree it is. Assumes nothing.
+use Prim.Native.Nat.{ℕ, _+_, _≤_, _<_}
+use mathlib.Core.Path.{_≡_}
+use mathlib.Core.Bool.{Bool, true, false, _||_}
+use mathlib.Core.List.{List, [], _∷_, _++_}
+use lib.ListN.{length}
+use Rattle.text.specs.Strings.{sameName}
+use Rattle.syntax.specs.Bounds.{maxLevel, maxNodes, maxDefinitions}
+use Rattle.syntax.specs.Tree.{Literal, Scope, own, other, Expr, literal, reference, unary, binary, conditional, Definition, Ad, nodes}
+use Rattle.syntax.specs.Token.{Token, word, constant, operator, symbol, Tokens, next, end, bad}
+use Rattle.syntax.specs.declared.Binary.{Binary}
+use Rattle.syntax.specs.declared.Binary.the-variants.{Or, And, Equal, NotEqual, Is, Isnt, Less, LessOrEqual, Greater, GreaterOrEqual, Add, Subtract, Multiply, Divide, Remainder}
+use Rattle.syntax.specs.declared.Unary.{Unary}
+use Rattle.syntax.specs.declared.Unary.the-variants.{Not, Plus, Minus}
+use Rattle.syntax.specs.declared.Symbol.the-variants.{Exclamation, Question, Colon, OpenParenthesis, CloseParenthesis, OpenBracket, CloseBracket, Semicolon, Assign, Point, Other}
+
+-- 'Binding, loosest first: `?:`; `||`; `&&`; `== != is isnt`; `< <= > >=`; `+ -`; `* / %`; unary `! + -`; then literals,
+-- references and parentheses.' `?:` is 0, unary operators are 7, and what binds tightest is 8.
+unfoldable pub bindsOf : Binary → ℕ
+bindsOf Or = 1
+bindsOf And = 2
+bindsOf Equal = 3
+bindsOf NotEqual = 3
+bindsOf Is = 3
+bindsOf Isnt = 3
+bindsOf Less = 4
+bindsOf LessOrEqual = 4
+bindsOf Greater = 4
+bindsOf GreaterOrEqual = 4
+bindsOf Add = 5
+bindsOf Subtract = 5
+bindsOf Multiply = 6
+bindsOf Divide = 6
+bindsOf Remainder = 6
+
+-- the tokens of 'unary `! + -`'
+abbrev pub unaryToken : Unary → Token
+unaryToken Not = symbol Exclamation
+unaryToken Plus = operator Add
+unaryToken Minus = operator Subtract
+
+-- Reads b d ts e: at level d the tokens ts are the expression e, in which no operator outside parentheses binds looser than b.
+-- 'The inside of parentheses, the operand of a unary operator and both arms of a conditional are one level deeper', and no
+-- deeper than level 64. 'An expression in parentheses is again a whole expression and leaves no node.' 'Binary operators group
+-- to the left.' 'A conditional is an `||`-expression, `?`, an expression, `:`, an expression.'
+pub data Reads : ℕ → ℕ → List Token → Expr → Type 0 where
+  reads-literal : {d : ℕ} {l : Literal} → Reads 8 d (constant l ∷ []) (literal l)
+  reads-own : {d : ℕ} {w : List ℕ} → Reads 8 d (word w ∷ []) (reference own w)
+  reads-other : {d : ℕ} {w : List ℕ} → Reads 8 d (symbol Other ∷ symbol Point ∷ word w ∷ []) (reference other w)
+  reads-parentheses : {d : ℕ} {ts : List Token} {e : Expr} → d < maxLevel →
+      Reads 0 (d + 1) ts e →
+      Reads 8 d (symbol OpenParenthesis ∷ (ts ++ symbol CloseParenthesis ∷ [])) e
+  reads-unary : {d : ℕ} {u : Unary} {ts : List Token} {e : Expr} → d < maxLevel →
+      Reads 7 (d + 1) ts e →
+      Reads 7 d (unaryToken u ∷ ts) (unary u e)
+  reads-binary : {d : ℕ} {j : Binary} {xs ys : List Token} {a b : Expr} →
+      Reads (bindsOf j) d xs a →
+      Reads (bindsOf j + 1) d ys b →
+      Reads (bindsOf j) d (xs ++ operator j ∷ ys) (binary j a b)
+  reads-conditional : {d : ℕ} {xs ys zs : List Token} {a b c : Expr} → d < maxLevel →
+      Reads 1 d xs a →
+      Reads 0 (d + 1) ys b →
+      Reads 0 (d + 1) zs c →
+      Reads 0 d (xs ++ symbol Question ∷ (ys ++ symbol Colon ∷ zs)) (conditional a b c)
+  -- what binds tighter may stand where b is asked
+  reads-tighter : {b d : ℕ} {ts : List Token} {e : Expr} → b < 8 → Reads (b + 1) d ts e → Reads b d ts e
+
+-- 'definitions `name = expression` parted by `;`'; 'A definition's expression starts at level 0.'
+pub data Defines : List Token → Ad → Type 0 where
+  defines-one : {w : List ℕ} {ts : List Token} {e : Expr} →
+      Reads 0 0 ts e →
+      Defines (word w ∷ symbol Assign ∷ ts) (record { name = w; expression = e } ∷ [])
+  defines-more : {w : List ℕ} {ts us : List Token} {e : Expr} {a : Ad} →
+      Reads 0 0 ts e →
+      Defines us a →
+      Defines (word w ∷ symbol Assign ∷ (ts ++ symbol Semicolon ∷ us)) (record { name = w; expression = e } ∷ a)
+
+-- '`[`, then definitions .., one further `;` allowed after the last, then `]`. `[]` is an ad; `[;]` is not.'
+pub data IsAd : List Token → Ad → Type 0 where
+  ad-empty : IsAd (symbol OpenBracket ∷ symbol CloseBracket ∷ []) []
+  ad-plain : {ts : List Token} {a : Ad} → Defines ts a → IsAd (symbol OpenBracket ∷ (ts ++ symbol CloseBracket ∷ [])) a
+  ad-trailing : {ts : List Token} {a : Ad} → Defines ts a → IsAd (symbol OpenBracket ∷ (ts ++ symbol Semicolon ∷ symbol CloseBracket ∷ [])) a
+
+-- whether a name is defined among some definitions: 'Names match without regard to ASCII case'
+unfoldable pub defined : List ℕ → Ad → Bool
+defined w [] = false
+defined w (d ∷ ds) = sameName (d .name) w || defined w ds
+
+-- no name is defined twice
+unfoldable pub Distinct : Ad → Type 0
+Distinct [] = Unit {0}
+Distinct (d ∷ ds) = (defined (d .name) ds ≡ false) × Distinct ds
+
+-- the bounds that count over a whole ad, and refusal 8
+pub record Within (a : Ad) : Type 0 where
+  pub few-definitions : length a ≤ maxDefinitions
+  pub few-nodes : nodes a ≤ maxNodes
+  pub distinct : Distinct a
+
+-- Follows u ts v: the tokens u are ts, and then v
+pub data Follows : Tokens → List Token → Tokens → Type 0 where
+  none : {u : Tokens} → Follows u [] u
+  some : {p : ℕ} {t : Token} {ts : List Token} {u v : Tokens} → Follows u ts v → Follows (next p t u) (t ∷ ts) v
+
+-- the tokens u are ts, up to the end of the text
+abbrev pub Whole : Tokens → List Token → Type 0
+Whole u ts = (n : ℕ) × Follows u ts (end n)
