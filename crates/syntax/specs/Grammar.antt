@@ -86,10 +86,14 @@ unfoldable pub defined : List ℕ → Ad → Bool
 defined w [] = false
 defined w (d ∷ ds) = sameName (d .name) w || defined w ds
 
--- no name is defined twice
-unfoldable pub Distinct : Ad → Type 0
-Distinct [] = Unit {0}
-Distinct (d ∷ ds) = (defined (d .name) ds ≡ false) × Distinct ds
+-- each name of the definitions ds is new after those before it, which start with a
+unfoldable pub NewAfter : (List ℕ → Ad → Bool) → Ad → Ad → Type 0
+NewAfter taken a [] = Unit {0}
+NewAfter taken a (d ∷ ds) = (taken (d .name) a ≡ false) × NewAfter taken (a ++ d ∷ []) ds
+
+-- no 'name defined twice'
+abbrev pub Distinct : Ad → Type 0
+Distinct a = NewAfter defined [] a
 
 -- the bounds that count over a whole ad, and refusal 8
 pub record Within (a : Ad) : Type 0 where

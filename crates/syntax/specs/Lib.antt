@@ -5,3 +5,4 @@ pub mod Grammar
 pub mod Reader
 pub mod Print
 pub mod Examples
+pub mod Laws
