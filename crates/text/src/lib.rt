@@ -1,8 +1,83 @@
 // Bytes and strings of bytes.
+ghost use mathlib.Core.Path.{_≡_};
+ghost use Rattle.text.specs.Bytes.{lowerCase};
+ghost use Rattle.text.specs.Strings.{sameBytes, sameName, stringOrder};
 
 // How a string stands to another.
 pub enum Order {
     Less,
     Same,
     Greater,
+}
+
+// ASCII lower case.
+pub fn lower(b: u8) -> u8
+    ensures { λ r. ⌜ r ≡ lowerCase b ⌝ }
+{
+    if 65 <= b {
+        if b <= 90 {
+            return b + 32;
+        }
+        return b;
+    }
+    b
+}
+
+// Byte for byte.
+pub fn same_bytes(a: &[u8], b: &[u8]) -> bool
+    ensures { λ r. ⌜ r ≡ sameBytes (now (a .entry)) (now (b .entry)) ⌝ }
+{
+    if a.len() != b.len() {
+        return false;
+    }
+    let mut i = 0;
+    while i < a.len() {
+        if a[i] != b[i] {
+            return false;
+        }
+        i += 1;
+    }
+    true
+}
+
+// Without regard to ASCII case.
+pub fn same_name(a: &[u8], b: &[u8]) -> bool
+    ensures { λ r. ⌜ r ≡ sameName (now (a .entry)) (now (b .entry)) ⌝ }
+{
+    if a.len() != b.len() {
+        return false;
+    }
+    let mut i = 0;
+    while i < a.len() {
+        if lower(a[i]) != lower(b[i]) {
+            return false;
+        }
+        i += 1;
+    }
+    true
+}
+
+// The order of the bytes after ASCII lower case.
+pub fn string_order(a: &[u8], b: &[u8]) -> Order
+    ensures { λ r. ⌜ r ≡ stringOrder (now (a .entry)) (now (b .entry)) ⌝ }
+{
+    let mut i = 0;
+    while i < a.len() {
+        if b.len() <= i {
+            return Order::Greater;
+        }
+        let x = lower(a[i]);
+        let y = lower(b[i]);
+        if x < y {
+            return Order::Less;
+        }
+        if y < x {
+            return Order::Greater;
+        }
+        i += 1;
+    }
+    if i < b.len() {
+        return Order::Less;
+    }
+    Order::Same
 }
