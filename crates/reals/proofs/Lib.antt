@@ -1,0 +1,3 @@
+pub mod Divide
+pub mod Table
+pub mod Literals

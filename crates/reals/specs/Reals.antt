@@ -1,0 +1,23 @@
+-- What a real literal is worth, and what an Integer is as a Real. Assumes nothing.
+use Prim.Native.Nat.{ℕ, _^_}
+use mathlib.Core.Bool.{Bool, false, cond, _&&_}
+use lib.Dec.{ltb}
+use lib.IntN.{pos}
+use lib.Ieee.{Float, binary64, round, ofInt}
+use Rattle.integers.specs.Integers.{signed}
+
+-- 'A real literal is the whole number of its digits divided by the power of ten of its places, one rounding.'
+abbrev pub literalReal : ℕ → ℕ → Float
+literalReal digits places = round binary64 false digits (10 ^ places)
+
+-- 'at most 15 digits in all', of which at least one stands before the point
+abbrev pub isLiteral : ℕ → ℕ → Bool
+isLiteral digits places = ltb digits (10 ^ 15) && ltb places 15
+
+-- the Real of any two stored numbers: where no literal has them, 0.0
+abbrev pub storedReal : ℕ → ℕ → Float
+storedReal digits places = cond (isLiteral digits places) (literalReal digits places) (ofInt binary64 (pos 0))
+
+-- 'the Integer becomes Real': the Integer of a code of w bits, rounded once
+abbrev pub integerReal : ℕ → ℕ → Float
+integerReal w a = ofInt binary64 (signed w a)
