@@ -1,6 +1,6 @@
 // Bytes and strings of bytes.
 ghost use mathlib.Core.Path.{_≡_};
-ghost use Rattle.text.specs.Bytes.{lowerCase};
+ghost use Rattle.text.specs.Bytes.{isBlank, isDigit, isLetter, startsName, continuesName, lowerCase};
 ghost use Rattle.text.specs.Strings.{sameBytes, sameName, stringOrder};
 
 // How a string stands to another.
@@ -8,6 +8,63 @@ pub enum Order {
     Less,
     Same,
     Greater,
+}
+
+// Space, tab, CR or LF.
+pub fn is_blank(b: u8) -> bool
+    ensures { λ r. ⌜ r ≡ isBlank b ⌝ }
+{
+    if b == 32 {
+        return true;
+    }
+    if b == 9 {
+        return true;
+    }
+    if b == 13 {
+        return true;
+    }
+    b == 10
+}
+
+pub fn is_digit(b: u8) -> bool
+    ensures { λ r. ⌜ r ≡ isDigit b ⌝ }
+{
+    if 48 <= b {
+        return b <= 57;
+    }
+    false
+}
+
+pub fn is_letter(b: u8) -> bool
+    ensures { λ r. ⌜ r ≡ isLetter b ⌝ }
+{
+    if 97 <= b {
+        return b <= 122;
+    }
+    if 65 <= b {
+        return b <= 90;
+    }
+    false
+}
+
+// The first byte of a Name.
+pub fn starts_name(b: u8) -> bool
+    ensures { λ r. ⌜ r ≡ startsName b ⌝ }
+{
+    if is_letter(b) {
+        return true;
+    }
+    b == 95
+}
+
+// A further byte of a Name.
+pub fn continues_name(b: u8) -> bool
+    ensures { λ r. ⌜ r ≡ continuesName b ⌝ }
+{
+    if starts_name(b) {
+        return true;
+    }
+    is_digit(b)
 }
 
 // ASCII lower case.
