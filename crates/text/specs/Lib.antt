@@ -1,2 +1,3 @@
 pub mod Bytes
 pub mod Strings
+pub mod Parts

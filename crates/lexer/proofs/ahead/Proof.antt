@@ -1,0 +1,16 @@
+use native.Mathlib.Omega.{arith}
+use mathlib.Core.Path.{sym}
+use lib.ListN.{length, List·getD-eq-default}
+use Prim.Native.Nat.{_≤_, _+_}
+use borrow.Author.Needs.{needs}
+use Rattle.lexer.proofs.ahead.Statement.{statement}
+use Rattle.lexer.proofs.ahead.Tie as tie
+use Rattle.lexer.proofs.ahead.Reads as reads
+use Rattle.lexer.proofs.ahead.Lts as lts
+
+returns-2 : tie.Need-returns-2
+returns-2 c = let h : length (c .before .args .text .now) ≤ c .before .args .p + c .before .args .k = omega arith in sym (List·getD-eq-default (c .before .args .text .now) 0 h)
+
+pub ahead-spec : {M : Type 1} → statement M
+ahead-spec = tie.close (tie.spec
+    (λ c. search needs) (λ c. search needs) (λ c. search needs) (λ c. search needs) returns-2)

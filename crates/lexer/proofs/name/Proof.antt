@@ -1,0 +1,23 @@
+use native.Mathlib.Omega.{arith}
+use mathlib.Core.Path.{_≡_, sym, _∙_}
+use Rattle.lexer.proofs.Laws.{name-long, name-token, run-some}
+use borrow.Author.Needs.{needs}
+use Rattle.lexer.proofs.name.Statement.{statement}
+use Rattle.lexer.proofs.name.Tie as tie
+use Rattle.lexer.proofs.name.Reads as reads
+use Rattle.lexer.proofs.name.Lts as lts
+use Rattle.lexer.proofs.run.Reads as run-reads
+use Rattle.lexer.proofs.word.Reads as word-reads
+
+returns : tie.Need-returns
+returns c = record { means-it = name-long (c .before .before .before .args .text .now) (c .before .before .before .args .p) (c .before .run .result) (c .before .run .ensures) (c .if1 .taken); span = tt }
+
+word-requires : tie.Need-word-requires
+word-requires c κs = (run-some _ (c .before .before .before .args .text .now) (c .before .before .before .args .p) (c .before .run .result) (c .before .before .before .pre) (c .before .run .ensures), omega arith)
+
+returns-2 : tie.Need-returns-2
+returns-2 c = let lt = run-some _ (c .before .before .before .before .args .text .now) (c .before .before .before .before .args .p) (c .before .before .run .result) (c .before .before .before .before .pre) (c .before .before .run .ensures) in record { means-it = name-token (c .before .before .before .before .args .text .now) (c .before .before .before .before .args .p) (c .before .before .run .result) (c .before .before .run .ensures) lt (c .before .if1 .left) ∙ c .word .ensures .means-it; span = c .word .ensures .span }
+
+pub name-spec : {M : Type 1} → statement M
+name-spec = tie.close (tie.spec
+    (λ c κs. search needs) (λ c. search needs) returns word-requires returns-2)

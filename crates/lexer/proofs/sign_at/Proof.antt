@@ -1,0 +1,25 @@
+use mathlib.Core.Path.{refl, sym, _∙_, ap}
+use Rattle.lexer.specs.Meaning.{signFront}
+use Rattle.lexer.proofs.Laws.{sign-long, sign-short}
+use borrow.Author.Needs.{needs}
+use Rattle.lexer.proofs.sign_at.Statement.{statement}
+use Rattle.lexer.proofs.sign_at.Tie as tie
+use Rattle.lexer.proofs.sign_at.Reads as reads
+use Rattle.lexer.proofs.sign_at.Lts as lts
+use Rattle.lexer.proofs.ahead.Reads as ahead-reads
+use Rattle.lexer.proofs.long_sign.Reads as long-sign-reads
+use Rattle.lexer.proofs.short_sign.Reads as short-sign-reads
+
+returns : tie.Need-returns
+returns c = sign-long (c .before .before .before .before .before .before .before .before .args .text .now) (c .before .before .before .before .before .before .before .before .args .p) (c .before .before .before .before .before .ahead .result) (c .before .before .before .before .ahead2 .result) (c .before .before .before .before .before .ahead .ensures) (c .before .before .before .before .ahead2 .ensures) _ _ _ (c .before .before .before .before .before .before .before .before .pre) (ap signFront (sym (c .before .j .given .1)) ∙ c .before .before .before .long-sign .ensures) refl
+
+returns-2 : tie.Need-returns-2
+returns-2 c = sign-long (c .before .before .before .before .before .before .before .before .args .text .now) (c .before .before .before .before .before .before .before .before .args .p) (c .before .before .before .before .before .ahead .result) (c .before .before .before .before .ahead2 .result) (c .before .before .before .before .before .ahead .ensures) (c .before .before .before .before .ahead2 .ensures) _ _ _ (c .before .before .before .before .before .before .before .before .pre) (ap signFront (sym (c .before .x .given .1)) ∙ c .before .before .before .long-sign .ensures) refl
+
+returns-3 : tie.Need-returns-3
+returns-3 c = sign-short (c .before .before .before .before .before .before .before .before .args .text .now) (c .before .before .before .before .before .before .before .before .args .p) (c .before .before .before .before .before .ahead .result) (c .before .before .before .before .ahead2 .result) (c .before .before .before .before .before .ahead .ensures) (c .before .before .before .before .ahead2 .ensures) (c .short-sign .result) (c .before .before .before .before .before .before .before .before .pre) (ap signFront (sym (c .before .enum-told .given .1)) ∙ c .before .before .before .long-sign .ensures) (c .short-sign .ensures)
+
+pub sign-at-spec : {M : Type 1} → statement M
+sign-at-spec = tie.close (tie.spec
+    (λ c. search needs) (λ c κs. search needs) (λ c κs. search needs) (λ c κs. search needs) (λ c. search needs) (λ c. search needs)
+    (λ c. search needs) (λ c κs. search needs) returns returns-2 returns-3)

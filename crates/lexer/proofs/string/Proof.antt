@@ -1,0 +1,21 @@
+use native.Mathlib.Omega.{arith}
+use Rattle.lexer.proofs.Laws.{string-broken, string-long, string-token, string-length}
+use borrow.Author.Needs.{needs}
+use Rattle.lexer.proofs.string.Statement.{statement}
+use Rattle.lexer.proofs.string.Tie as tie
+use Rattle.lexer.proofs.string.Reads as reads
+use Rattle.lexer.proofs.string.Lts as lts
+use Rattle.lexer.proofs.string_end.Reads as string-end-reads
+
+returns : tie.Need-returns
+returns c = record { means-it = string-broken (c .before .before .before .before .args .text .now) (c .before .before .before .before .args .p) (rw (c .enum-told .given .1) at (c .before .before .string-end .ensures)); span = tt }
+
+returns-2 : tie.Need-returns-2
+returns-2 c = let b = (rw (c .before .before .n .given .1) at (c .before .before .before .before .string-end .ensures)) in record { means-it = string-long (c .before .before .before .before .before .before .args .text .now) (c .before .before .before .before .before .before .args .p) _ _ (b .0) (b .1) (b .2) (c .if1 .taken); span = tt }
+
+returns-3 : tie.Need-returns-3
+returns-3 c = let b = (rw (c .before .before .n .given .1) at (c .before .before .before .before .string-end .ensures)) in record { means-it = string-token (c .before .before .before .before .before .before .args .text .now) (c .before .before .before .before .before .before .args .p) _ _ (b .0) (b .1) (b .2) (c .if1 .left); span = (omega arith, omega arith, b .1, string-length (c .before .before .before .before .before .before .args .text .now) (c .before .before .before .before .before .before .args .p) _ _ (b .0) (b .1) (b .2)) }
+
+pub string-spec : {M : Type 1} → statement M
+string-spec = tie.close (tie.spec
+    (λ c. search needs) (λ c κs. search needs) (λ c. search needs) (λ c. search needs) returns returns-2 returns-3)

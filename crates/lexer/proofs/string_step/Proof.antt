@@ -1,0 +1,27 @@
+use native.Mathlib.Omega.{arith}
+use Rattle.lexer.proofs.Laws.{string-none, string-close, string-low, string-high, string-byte}
+use borrow.Author.Needs.{needs}
+use Rattle.lexer.proofs.string_step.Statement.{statement}
+use Rattle.lexer.proofs.string_step.Tie as tie
+use Rattle.lexer.proofs.string_step.Reads as reads
+use Rattle.lexer.proofs.string_step.Lts as lts
+use Rattle.lexer.proofs.escaped_step.Reads as escaped-step-reads
+
+returns : tie.Need-returns
+returns c = string-none (c .before .before .args .text .now) (c .before .before .args .i) (c .if1 .taken)
+
+returns-2 : tie.Need-returns-2
+returns-2 c = string-close (c .before .before .before .before .args .text .now) (c .before .before .before .before .args .i) (c .before .before .if1 .left) (c .if2 .taken)
+
+returns-4 : tie.Need-returns-4
+returns-4 c = string-low (c .before .before .before .before .before .before .args .text .now) (c .before .before .before .before .before .before .args .i) (c .before .before .before .before .if1 .left) (c .before .before .if2 .left) (c .before .if3 .left) (c .if4 .taken)
+
+returns-5 : tie.Need-returns-5
+returns-5 c = string-high (c .before .before .before .before .before .before .before .args .text .now) (c .before .before .before .before .before .before .before .args .i) (c .before .before .before .before .before .if1 .left) (c .before .before .before .if2 .left) (c .before .before .if3 .left) (c .before .if4 .left) (c .if5 .taken)
+
+returns-6 : tie.Need-returns-6
+returns-6 c = (omega arith, omega arith, string-byte (c .before .before .before .before .before .before .before .args .text .now) (c .before .before .before .before .before .before .before .args .i) (c .before .before .before .before .before .if1 .left) (c .before .before .before .if2 .left) (c .before .before .if3 .left) (c .before .if4 .left) (c .if5 .left))
+
+pub string-step-spec : {M : Type 1} → statement M
+string-step-spec = tie.close (tie.spec
+    returns (λ c. search needs) returns-2 (λ c κs. search needs) (λ c. search needs) returns-4 returns-5 (λ c. search needs) returns-6)

@@ -1,0 +1,29 @@
+use native.Mathlib.Omega.{arith}
+use mathlib.Core.Path.{refl, sym, _∙_, ap}
+use Rattle.lexer.specs.Meaning.{signFront}
+use Rattle.lexer.proofs.Laws.{symbol-placed, symbol-bad}
+use borrow.Author.Needs.{needs}
+use Rattle.lexer.proofs.symbol_token.Statement.{statement}
+use Rattle.lexer.proofs.symbol_token.Tie as tie
+use Rattle.lexer.proofs.symbol_token.Reads as reads
+use Rattle.lexer.proofs.symbol_token.Lts as lts
+use Rattle.lexer.proofs.sign_at.Reads as sign-at-reads
+
+add-t9 : tie.Need-add-t9
+add-t9 c = let f = (rw (c .before .j .given .1) at (c .before .before .before .sign-at .ensures .fits)) in omega arith
+
+add-t10 : tie.Need-add-t10
+add-t10 c = let f = (rw (c .before .x .given .1) at (c .before .before .before .sign-at .ensures .fits)) in omega arith
+
+returns : tie.Need-returns
+returns c = let f = (rw (c .before .j .given .1) at (c .before .before .before .sign-at .ensures .fits)) in record { means-it = symbol-placed (c .before .before .before .before .before .args .text .now) (c .before .before .before .before .before .args .p) _ _ (f .0) (f .1) (ap signFront (sym (c .before .j .given .1)) ∙ c .before .before .before .sign-at .ensures .front); span = (omega arith, omega arith, f .1) }
+
+returns-2 : tie.Need-returns-2
+returns-2 c = let f = (rw (c .before .x .given .1) at (c .before .before .before .sign-at .ensures .fits)) in record { means-it = symbol-placed (c .before .before .before .before .before .args .text .now) (c .before .before .before .before .before .args .p) _ _ (f .0) (f .1) (ap signFront (sym (c .before .x .given .1)) ∙ c .before .before .before .sign-at .ensures .front); span = (omega arith, omega arith, f .1) }
+
+returns-3 : tie.Need-returns-3
+returns-3 c = record { means-it = symbol-bad (c .before .before .before .before .args .text .now) (c .before .before .before .before .args .p) (ap signFront (sym (c .enum-told .given .1)) ∙ c .before .before .sign-at .ensures .front); span = tt }
+
+pub symbol-token-spec : {M : Type 1} → statement M
+symbol-token-spec = tie.close (tie.spec
+    (λ c κs. search needs) (λ c. search needs) add-t9 (λ c. search needs) add-t10 (λ c. search needs) returns returns-2 returns-3)
