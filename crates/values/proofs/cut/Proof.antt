@@ -1,0 +1,27 @@
+-- `values::cut` meets its contract. Assumes nothing.
+use Prim.Native.Nat.{_-_}
+use native.Mathlib.Nat.{add-sub-cancel-left}
+use native.Mathlib.Omega.{arith}
+use denote.Ref.{now}
+use lib.ListN.{length, drop, drop-of-length-le, length-drop}
+use lib.Seq.{drop-length}
+use Rattle.values.proofs.Parts.{cut-none, cut-all}
+use borrow.Author.Needs.{needs}
+use Rattle.values.proofs.cut.Statement.{statement}
+use Rattle.values.proofs.cut.Tie as tie
+
+returns : tie.Need-returns
+returns c = let m = now (c .before .before .args .memory) in rw (drop-length m, drop-of-length-le m (c .before .if1 .taken)) (cut-none (length m - length m) (c .before .before .args .length))
+
+returns-2 : tie.Need-returns-2
+returns-2 c = rw (add-sub-cancel-left (c .before .before .before .args .offset) (c .before .before .before .args .length))
+
+returns-3 : tie.Need-returns-3
+returns-3 c =
+    let m = now (c .before .before .before .args .memory) in let a = c .before .before .before .args .offset in
+    cut-all (drop a m) (length m - a) (c .before .before .before .args .length) (length-drop a m) (let h = c .before .if2 .left in omega arith)
+
+pub cut-spec : {M : Type 1} → statement M
+cut-spec = tie.close (tie.spec
+    (λ c. search needs) (λ c. search needs) (λ c. search needs) returns (λ c. search needs) (λ c. search needs) (λ c. search needs)
+    (λ c. search needs) (λ c. search needs) returns-2 (λ c. search needs) (λ c. search needs) (λ c. search needs) returns-3)
