@@ -1,0 +1,28 @@
+-- `arithmetic::compute` meets its contract. Assumes nothing.
+use mathlib.Core.Path.{_≡_, sym, ap, ap₂, _∙_}
+use Rattle.values.specs.declared.Value.the-variants.{Real}
+use Rattle.arithmetic.proofs.Pairs.{arithmetic-of}
+use borrow.Author.Needs.{needs}
+use Rattle.arithmetic.proofs.compute.Statement.{statement}
+use Rattle.arithmetic.proofs.compute.Tie as tie
+
+returns : tie.Need-returns
+returns c = arithmetic-of (c .before .before .before .before .before .args .op) (c .before .before .before .before .before .args .a) (c .before .before .before .before .before .args .b) (c .before .before .before .before .number-only .ensures) (c .before .before .before .number-only2 .ensures) (c .before .before .pair-of .ensures) (c .enum-told .given .1)
+
+returns-2 : tie.Need-returns-2
+returns-2 c = arithmetic-of (c .before .before .before .before .before .args .op) (c .before .before .before .before .before .args .a) (c .before .before .before .before .before .args .b) (c .before .before .before .before .number-only .ensures) (c .before .before .before .number-only2 .ensures) (c .before .before .pair-of .ensures) (c .enum-told2 .given .1)
+
+returns-3 : tie.Need-returns-3
+returns-3 c = c .of-integers .ensures ∙ arithmetic-of (c .before .before .before .before .before .before .before .args .op) (c .before .before .before .before .before .before .before .args .a) (c .before .before .before .before .before .before .before .args .b) (c .before .before .before .before .before .before .number-only .ensures) (c .before .before .before .before .before .number-only2 .ensures) (c .before .before .before .before .pair-of .ensures) (c .before .before .pair .given .1)
+
+returns-4 : tie.Need-returns-4
+returns-4 c = ap Real (c .of-reals .ensures) ∙ arithmetic-of (c .before .before .before .before .before .before .before .args .op) (c .before .before .before .before .before .before .before .args .a) (c .before .before .before .before .before .before .before .args .b) (c .before .before .before .before .before .before .number-only .ensures) (c .before .before .before .before .before .number-only2 .ensures) (c .before .before .before .before .pair-of .ensures) (c .before .before .pair2 .given .1)
+
+returns-5 : tie.Need-returns-5
+returns-5 c = arithmetic-of (c .before .before .before .before .before .args .op) (c .before .before .before .before .before .args .a) (c .before .before .before .before .before .args .b) (c .before .before .before .before .number-only .ensures) (c .before .before .before .number-only2 .ensures) (c .before .before .pair-of .ensures) (c .enum-told3 .given .1)
+
+pub compute-spec : {M : Type 1} → statement M
+compute-spec = tie.close (tie.spec
+    (λ c κs. search needs) (λ c κs. search needs) (λ c κs. search needs) (λ c. search needs) (λ c. search needs)
+    (λ c. search needs) (λ c κs. search needs) (λ c. search needs) (λ c κs. search needs) (λ c. search needs) returns returns-2
+    returns-3 returns-4 returns-5)

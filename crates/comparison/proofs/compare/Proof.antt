@@ -1,0 +1,36 @@
+-- `comparison::compare` meets its contract. Assumes nothing.
+use mathlib.Core.Path.{ap, _∙_}
+use denote.Ref.{now}
+use Rattle.values.specs.declared.Value.the-variants.{Boolean}
+use Rattle.comparison.specs.Comparison.{orderHolds}
+use Rattle.comparison.proofs.Pairs.{comparison-of}
+use borrow.Author.Needs.{needs}
+use Rattle.comparison.proofs.compare.Statement.{statement}
+use Rattle.comparison.proofs.compare.Tie as tie
+
+returns : tie.Need-returns
+returns c = comparison-of (now (c .before .before .before .before .before .args .first)) (now (c .before .before .before .before .before .args .second)) (c .before .before .before .before .before .args .op) (c .before .before .before .before .before .args .a) (c .before .before .before .before .before .args .b) (c .before .before .pair-of .ensures) (c .enum-told .given .1)
+
+returns-2 : tie.Need-returns-2
+returns-2 c = comparison-of (now (c .before .before .before .before .before .args .first)) (now (c .before .before .before .before .before .args .second)) (c .before .before .before .before .before .args .op) (c .before .before .before .before .before .args .a) (c .before .before .before .before .before .args .b) (c .before .before .pair-of .ensures) (c .enum-told2 .given .1)
+
+returns-3 : tie.Need-returns-3
+returns-3 c =
+    ap Boolean (c .compare-integers .ensures)
+    ∙ comparison-of (now (c .before .before .before .before .before .before .before .args .first)) (now (c .before .before .before .before .before .before .before .args .second)) (c .before .before .before .before .before .before .before .args .op) (c .before .before .before .before .before .before .before .args .a) (c .before .before .before .before .before .before .before .args .b) (c .before .before .before .before .pair-of .ensures) (c .before .before .pair .given .1)
+
+returns-4 : tie.Need-returns-4
+returns-4 c =
+    ap Boolean (c .compare-reals .ensures)
+    ∙ comparison-of (now (c .before .before .before .before .before .before .before .args .first)) (now (c .before .before .before .before .before .before .before .args .second)) (c .before .before .before .before .before .before .before .args .op) (c .before .before .before .before .before .before .before .args .a) (c .before .before .before .before .before .before .before .args .b) (c .before .before .before .before .pair-of .ensures) (c .before .before .pair2 .given .1)
+
+returns-5 : tie.Need-returns-5
+returns-5 c =
+    ap Boolean (c .order-holds .ensures ∙ ap (orderHolds (c .before .before .before .before .before .before .before .before .args .op)) (c .before .strings-order .ensures))
+    ∙ comparison-of (now (c .before .before .before .before .before .before .before .before .args .first)) (now (c .before .before .before .before .before .before .before .before .args .second)) (c .before .before .before .before .before .before .before .before .args .op) (c .before .before .before .before .before .before .before .before .args .a) (c .before .before .before .before .before .before .before .before .args .b) (c .before .before .before .before .before .pair-of .ensures) (c .before .before .before .pair3 .given .1)
+
+pub compare-spec : {M : Type 1} → statement M
+compare-spec = tie.close (tie.spec
+    (λ c κs. search needs) (λ c. search needs) (λ c. search needs) (λ c. search needs) (λ c κs. search needs) (λ c. search needs)
+    (λ c κs. search needs) (λ c. search needs) (λ c κs. search needs) (λ c κs. search needs) returns returns-2 returns-3 returns-4
+    returns-5)

@@ -1,0 +1,64 @@
+-- The six comparisons. Assumes nothing.
+use Prim.Native.Nat.{ℕ}
+use mathlib.Core.Bool.{Bool, true, false, not}
+use mathlib.Core.List.{List}
+use lib.Dec.{eqb}
+use lib.Ieee as Ieee
+use lib.Ieee.{Float}
+use Rattle.integers.specs.Integers.{width, lessThan}
+use Rattle.text.specs.Strings.{stringOrder}
+use Rattle.text.specs.declared.Order.{Order}
+use Rattle.text.specs.declared.Order.the-variants.{Less, Same, Greater}
+use Rattle.values.specs.declared.Value.{Value}
+use Rattle.values.specs.declared.Value.the-variants.{Undefined, Error, Boolean}
+use Rattle.values.specs.Values.{bytesAt}
+use Rattle.operands.specs.declared.Operands.{Operands}
+use Rattle.operands.specs.declared.Operands.the-variants.{Refused, Missing, Integers, Reals, Strings}
+use Rattle.comparison.specs.declared.Comparison.{Comparison}
+use Rattle.comparison.specs.declared.Comparison.the-variants.{Equal, NotEqual, Below, AtMost, Above, AtLeast}
+use Rattle.operands.specs.Operands.{operandsOf}
+
+abbrev pub integersCompare : Comparison → ℕ → ℕ → Bool
+integersCompare Equal x y = eqb x y
+integersCompare NotEqual x y = not (eqb x y)
+integersCompare Below x y = lessThan width x y
+integersCompare AtMost x y = not (lessThan width y x)
+integersCompare Above x y = lessThan width y x
+integersCompare AtLeast x y = not (lessThan width x y)
+
+-- 'Real comparison is Java's.'
+abbrev pub realsCompare : Comparison → Float → Float → Bool
+realsCompare Equal x y = Ieee.eq x y
+realsCompare NotEqual x y = Ieee.ne x y
+realsCompare Below x y = Ieee.lt x y
+realsCompare AtMost x y = Ieee.le x y
+realsCompare Above x y = Ieee.lt y x
+realsCompare AtLeast x y = Ieee.le y x
+
+-- what holds where the first string is less, the same or greater
+abbrev pub byOrder : Bool → Bool → Bool → Order → Bool
+byOrder l s g Less = l
+byOrder l s g Same = s
+byOrder l s g Greater = g
+
+-- 'Strings compare by bytes after ASCII lower case; a proper beginning is smaller.'
+abbrev pub orderHolds : Comparison → Order → Bool
+orderHolds Equal = byOrder false true false
+orderHolds NotEqual = byOrder true false true
+orderHolds Below = byOrder true false false
+orderHolds AtMost = byOrder true true false
+orderHolds Above = byOrder false false true
+orderHolds AtLeast = byOrder false true true
+
+-- '.. or the pair is not admitted: Error. Else if one is Undefined: Undefined. Else the result.'
+abbrev pub comparisonResult : List ℕ → List ℕ → Comparison → Operands → Value
+comparisonResult first second op Refused = Error
+comparisonResult first second op Missing = Undefined
+comparisonResult first second op (Integers x y) = Boolean (integersCompare op x y)
+comparisonResult first second op (Reals x y) = Boolean (realsCompare op x y)
+comparisonResult first second op (Strings s o n t p m) =
+    Boolean (orderHolds op (stringOrder (bytesAt first second s o n) (bytesAt first second t p m)))
+
+-- 'comparison [admits] two numbers or two Strings. Booleans are not compared.'
+abbrev pub comparisonValue : List ℕ → List ℕ → Comparison → Value → Value → Value
+comparisonValue first second op a b = comparisonResult first second op (operandsOf a b)

@@ -1,0 +1,45 @@
+-- What two operands are to a strict operator. Assumes nothing.
+use Prim.Native.Nat.{ℕ}
+use mathlib.Core.Bool.{Bool}
+use lib.Ieee.{Float}
+use Rattle.integers.specs.Integers.{width}
+use Rattle.reals.specs.Reals.{integerReal}
+use Rattle.values.specs.declared.Value.{Value}
+use Rattle.values.specs.declared.Value.the-variants.{Undefined, Error, Boolean, Integer, Real, String}
+use Rattle.values.specs.Values.{kinds}
+use Rattle.operands.specs.declared.Operands.{Operands}
+use Rattle.operands.specs.declared.Operands.the-variants.{Refused, Missing, Integers, Reals, Strings}
+
+-- a kind that is refused
+abbrev refused : {A : Type 0} → A → Operands
+refused x = Refused
+
+abbrev refusedString : Bool → ℕ → ℕ → Operands
+refusedString side offset length = Refused
+
+-- 'If an operand is neither Undefined nor of an admitted type, or the pair is not admitted': Refused. 'Else if one is Undefined': Missing.
+-- Else the two values, of the pairs that some operator admits: 'two numbers or two Strings'. 'Mixed: the Integer becomes Real first.'
+-- The columns are the second operand's kinds: Undefined, Error, Boolean, Integer, Real, String
+abbrev pub withUndefined : Value → Operands
+withUndefined = kinds Missing Refused refused (λ y. Missing) (λ y. Missing) (λ side offset length. Missing)
+
+abbrev pub withInteger : ℕ → Value → Operands
+withInteger x = kinds Missing Refused refused (λ y. Integers x y) (λ y. Reals (integerReal width x) y) refusedString
+
+abbrev pub withReal : Float → Value → Operands
+withReal x = kinds Missing Refused refused (λ y. Reals x (integerReal width y)) (λ y. Reals x y) refusedString
+
+abbrev pub withString : Bool → ℕ → ℕ → Value → Operands
+withString side offset length = kinds Missing Refused refused refused refused (λ s o n. Strings side offset length s o n)
+
+abbrev pub operandsOf : Value → Value → Operands
+operandsOf Undefined b = withUndefined b
+operandsOf Error b = Refused
+operandsOf (Boolean x) b = Refused
+operandsOf (Integer x) b = withInteger x b
+operandsOf (Real x) b = withReal x b
+operandsOf (String side offset length) b = withString side offset length b
+
+-- 'Arithmetic admits two numbers': a String is as bad an operand there as an Error
+abbrev pub numberOnly : Value → Value
+numberOnly = kinds Undefined Error (λ x. Boolean x) (λ x. Integer x) (λ x. Real x) (λ side offset length. Error)
