@@ -1,0 +1,12 @@
+-- The examples hold: antt computes both sides. Assumes nothing.
+use mathlib.Core.Path.{refl}
+use lib.Ieee
+use Rattle.integers.specs.Integers.{wrap, signed}
+use Rattle.text.specs.Bytes.{bytes, lowerCase}
+use Rattle.text.specs.Strings.{stringOrder, bytesOrder, sameBytes}
+use Rattle.operators.specs.Expressions.{valueOf}
+use Rattle.operators.specs.Examples.{Holds, memory, examples}
+
+pub examples-hold : Holds examples
+unfolding memory examples valueOf wrap signed bytes lowerCase stringOrder bytesOrder sameBytes
+examples-hold = refl

@@ -1,0 +1,3 @@
+pub mod Operators
+pub mod Expressions
+pub mod Examples
