@@ -71,3 +71,61 @@ examples =
     -- W10: "One" == "one"
     ∷ record { text = binary One Equal lower-one; gives = Boolean true }
     ∷ []
+
+abbrev minus : Expression → Expression
+minus a = unary Minus a
+
+-- -2147483648
+abbrev lowest : Expression
+lowest = literal (integer (negsuc 2147483647))
+
+-- 0.0 / 0.0
+abbrev not-a-number : Expression
+not-a-number = binary (real 0 1) Divide (real 0 1)
+
+unfoldable pub edges : List Example
+edges =
+    -- -2147483648 / -1, and %
+    record { text = binary lowest Divide (minus (whole 1)); gives = integer (negsuc 2147483647) }
+    ∷ record { text = binary lowest Remainder (minus (whole 1)); gives = integer (pos 0) }
+    -- -2147483648 - 1, -(-2147483648), 65537 * 65537
+    ∷ record { text = binary lowest Subtract (whole 1); gives = integer (pos 2147483647) }
+    ∷ record { text = minus lowest; gives = integer (negsuc 2147483647) }
+    ∷ record { text = binary (whole 65537) Multiply (whole 65537); gives = integer (pos 131073) }
+    -- -7 / 2, 7 % -3, 1 % 0
+    ∷ record { text = binary (minus (whole 7)) Divide (whole 2); gives = integer (negsuc 2) }
+    ∷ record { text = binary (whole 7) Remainder (minus (whole 3)); gives = integer (pos 1) }
+    ∷ record { text = binary (whole 1) Remainder (whole 0); gives = Error }
+    -- -1 < 1
+    ∷ record { text = binary (minus (whole 1)) Less (whole 1); gives = Boolean true }
+    -- 1.0 / 0.0, 0.0 / 0.0
+    ∷ record { text = binary (real 10 1) Divide (real 0 1); gives = Real (inf false) }
+    ∷ record { text = not-a-number; gives = Real nan }
+    -- not-a-number is never itself, and not equal to itself; 0.0 is -0.0
+    ∷ record { text = binary not-a-number Is not-a-number; gives = Boolean false }
+    ∷ record { text = binary not-a-number NotEqual not-a-number; gives = Boolean true }
+    ∷ record { text = binary (real 0 1) Is (minus (real 0 1)); gives = Boolean true }
+    -- 0.1 + 0.2 == 0.3, 1 == 1.0, -7.5 % 2 == -1.5
+    ∷ record { text = binary (binary (real 1 1) Add (real 2 1)) Equal (real 3 1); gives = Boolean false }
+    ∷ record { text = binary (whole 1) Equal (real 10 1); gives = Boolean true }
+    ∷ record { text = binary (binary (minus (real 75 1)) Remainder (whole 2)) Equal (minus (real 15 1)); gives = Boolean true }
+    -- "a" < "B", "On" < "one", "One" is "one"
+    ∷ record { text = binary (literal (String false 7 1)) Less (literal (String false 8 1)); gives = Boolean true }
+    ∷ record { text = binary (literal (String false 1 2)) Less lower-one; gives = Boolean true }
+    ∷ record { text = binary One Is lower-one; gives = Boolean false }
+    -- undefined == "x", undefined < 1, undefined == true, true == true, 1 < "x"
+    ∷ record { text = binary undefined Equal x; gives = Undefined }
+    ∷ record { text = binary undefined Less (whole 1); gives = Undefined }
+    ∷ record { text = binary undefined Equal yes; gives = Error }
+    ∷ record { text = binary yes Equal yes; gives = Error }
+    ∷ record { text = binary (whole 1) Less x; gives = Error }
+    -- "x" && false, false && "x", !undefined, +"x", undefined is undefined
+    ∷ record { text = binary x And (literal (Boolean false)); gives = Error }
+    ∷ record { text = binary (literal (Boolean false)) And x; gives = Boolean false }
+    ∷ record { text = unary Not undefined; gives = Undefined }
+    ∷ record { text = unary Plus x; gives = Error }
+    ∷ record { text = binary undefined Is undefined; gives = Boolean true }
+    -- undefined ? 1 : 2, 1 ? 1 : 2
+    ∷ record { text = conditional undefined (whole 1) (whole 2); gives = Undefined }
+    ∷ record { text = conditional (whole 1) (whole 1) (whole 2); gives = Error }
+    ∷ []
