@@ -16,7 +16,7 @@ use Rattle.syntax.specs.declared.Symbol.the-variants.{Exclamation, Quest
 
 -- 'Binding, loosest first: `?:`; `||`; `&&`; `== != is isnt`; `< <= > >=`; `+ -`; `* / %`; unary `! + -`; then literals,
 -- references and parentheses.' `?:` is 0, unary operators are 7, and what binds tightest is 8.
-unfoldable pub bindsOf : Binary → ℕ
+abbrev pub bindsOf : Binary → ℕ
 bindsOf Or = 1
 bindsOf And = 2
 bindsOf Equal = 3

@@ -30,7 +30,7 @@ pub data Answer : Type 0 where
 -- ---- the token in front
 
 -- a number for each symbol and operator, so that two can be compared; 0 for a name or a literal
-unfoldable pub codeOf : Token → ℕ
+abbrev pub codeOf : Token → ℕ
 codeOf (word w) = 0
 codeOf (constant l) = 0
 codeOf (operator Or) = 1

@@ -1,0 +1,38 @@
+use mathlib.Core.Path.{_≡_, sym, _∙_}
+use Rattle.lookahead.proofs.Laws.{binary-absent, binary-here}
+use borrow.Author.Needs.{needs}
+use Rattle.lookahead.proofs.binary_at.Statement.{statement}
+use Rattle.lookahead.proofs.binary_at.Tie as tie
+use Rattle.lookahead.proofs.binary_at.Reads as reads
+use Rattle.lookahead.proofs.binary_at.Lts as lts
+use Rattle.lexer.proofs.token_at.Reads as token-at-reads
+use Rattle.lookahead.proofs.binds.Reads as binds-reads
+
+returns : tie.Need-returns
+returns c = binary-absent (c .before .before .before .before .args .text .now) (c .before .before .before .before .args .at) (c .before .before .before .before .args .level) _ (rw (c .enum-told .given .1) at (c .before .before .token-at .ensures)) tt
+
+returns-2 : tie.Need-returns-2
+returns-2 c = binary-absent (c .before .before .before .before .args .text .now) (c .before .before .before .before .args .at) (c .before .before .before .before .args .level) _ (rw (c .enum-told2 .given .1) at (c .before .before .token-at .ensures)) tt
+
+returns-3 : tie.Need-returns-3
+returns-3 c = binary-absent (c .before .before .before .before .args .text .now) (c .before .before .before .before .args .at) (c .before .before .before .before .args .level) _ (rw (c .enum-told3 .given .1) at (c .before .before .token-at .ensures)) tt
+
+returns-4 : tie.Need-returns-4
+returns-4 c = binary-absent (c .before .before .before .before .args .text .now) (c .before .before .before .before .args .at) (c .before .before .before .before .args .level) _ (rw (c .enum-told4 .given .1) at (c .before .before .token-at .ensures)) tt
+
+returns-5 : tie.Need-returns-5
+returns-5 c = binary-absent (c .before .before .before .before .args .text .now) (c .before .before .before .before .args .at) (c .before .before .before .before .args .level) _ (rw (c .enum-told5 .given .1) at (c .before .before .token-at .ensures)) tt
+
+returns-6 : tie.Need-returns-6
+returns-6 c = binary-here (c .before .before .before .before .before .before .before .args .text .now) (c .before .before .before .before .before .before .before .args .at) (c .before .before .before .before .before .before .before .args .level) _ _ _ (rw (c .before .before .before .j .given .1) at (c .before .before .before .before .before .token-at .ensures)) (sym (c .before .binds .ensures) ∙ c .if1 .taken)
+
+returns-7 : tie.Need-returns-7
+returns-7 c = binary-absent (c .before .before .before .before .before .before .before .args .text .now) (c .before .before .before .before .before .before .before .args .at) (c .before .before .before .before .before .before .before .args .level) _ (rw (c .before .before .before .j .given .1) at (c .before .before .before .before .before .token-at .ensures)) (λ e. c .if1 .left (c .before .binds .ensures ∙ e))
+
+returns-8 : tie.Need-returns-8
+returns-8 c = binary-absent (c .before .before .before .before .args .text .now) (c .before .before .before .before .args .at) (c .before .before .before .before .args .level) _ (rw (c .enum-told6 .given .1) at (c .before .before .token-at .ensures)) tt
+
+pub binary-at-spec : {M : Type 1} → statement M
+binary-at-spec = tie.close (tie.spec
+    (λ c κs. search needs) (λ c. search needs) (λ c. search needs) (λ c. search needs) (λ c. search needs) (λ c. search needs) (λ c. search needs)
+    (λ c κs. search needs) (λ c. search needs) returns returns-2 returns-3 returns-4 returns-5 returns-6 returns-7 returns-8)
