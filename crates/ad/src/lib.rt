@@ -1,4 +1,12 @@
-// The stored ad: its layout in lent memory.
+// The stored ad: its layout in lent memory, read and written by the numbers of its nodes and definitions.
+ghost use mathlib.Core.Path.{_≡_};
+ghost use mathlib.Core.List.{[], _∷_};
+ghost use Prim.Native.Nat.{_+_, _*_, _-_, _≤_, _<_};
+ghost use lib.ListN.{length, replicate};
+ghost use lib.Seq.{sets, slice};
+ghost use Rattle.text.specs.Strings.{sameName};
+ghost use Rattle.ad.specs.Layout.{node};
+ghost use Rattle.ad.specs.Stored.{offsetAt, lengthAt, bytesAt};
 
 // The room of an ad: 1,024 nodes of four words, behind them 256 definitions of three, and 16,384 bytes.
 pub const NODE_WORDS: usize = 4096;
@@ -6,3 +14,109 @@ pub const NODE_WORDS: usize = 4096;
 pub const WORDS: usize = 4864;
 
 pub const BYTES: usize = 16384;
+
+// A word as an index.
+fn index(x: u64) -> usize
+    ensures { λ r. ⌜ r ≡ x ⌝ }
+{
+    x as usize
+}
+
+// The offset of the name of definition j.
+pub fn offset(words: &[u64], j: usize) -> usize
+    requires { ⌜ (j < 256) × (4864 ≤ length (now words)) ⌝ }
+    ensures { λ r. ⌜ r ≡ offsetAt (now (words .entry)) j ⌝ }
+{
+    index(words[NODE_WORDS + 3 * j])
+}
+
+// The length of the name of definition j.
+pub fn name_length(words: &[u64], j: usize) -> usize
+    requires { ⌜ (j < 256) × (4864 ≤ length (now words)) ⌝ }
+    ensures { λ r. ⌜ r ≡ lengthAt (now (words .entry)) j ⌝ }
+{
+    index(words[NODE_WORDS + 3 * j + 1])
+}
+
+// The bytes from a place on, cut to what the memory holds.
+pub fn part(bytes: &[u8], at: usize, len: usize) -> &[u8]
+    ensures { λ r. ⌜ now r ≡ bytesAt (now (bytes .entry)) at len ⌝ }
+{
+    if bytes.len() <= at {
+        return &bytes[bytes.len()..];
+    }
+    if len <= bytes.len() - at {
+        let end = at + len;
+        return &bytes[at..end];
+    }
+    &bytes[at..]
+}
+
+// Whether definition j has this name.
+pub fn has_name(words: &[u64], bytes: &[u8], j: usize, name: &[u8]) -> bool
+    requires { ⌜ (j < 256) × (4864 ≤ length (now words)) ⌝ }
+    ensures { λ r. ⌜ r ≡ sameName (bytesAt (now (bytes .entry)) (offsetAt (now (words .entry)) j) (lengthAt (now (words .entry)) j)) (now (name .entry)) ⌝ }
+{
+    let at = offset(words, j);
+    let len = name_length(words, j);
+    text::same_name(part(bytes, at, len), name)
+}
+
+// Writes node n.
+pub fn store_node(words: &mut [u64], n: usize, kind: u64, a: u64, b: u64, c: u64)
+    requires { ⌜ 4 * n + 4 ≤ length (now words) ⌝ }
+    ensures { λ _. ⌜ now (words .exit) ≡ sets (now (words .entry)) (4 * n) (node kind a b c) ⌝ }
+{
+    let at = 4 * n;
+    words[at] = kind;
+    words[at + 1] = a;
+    words[at + 2] = b;
+    words[at + 3] = c;
+}
+
+// Writes definition j.
+pub fn store_definition(words: &mut [u64], j: usize, at: u64, len: u64, root: u64)
+    requires { ⌜ 4096 + 3 * j + 3 ≤ length (now words) ⌝ }
+    ensures { λ _. ⌜ now (words .exit) ≡ sets (now (words .entry)) (4096 + 3 * j) (at ∷ len ∷ root ∷ []) ⌝ }
+{
+    let first = NODE_WORDS + 3 * j;
+    words[first] = at;
+    words[first + 1] = len;
+    words[first + 2] = root;
+}
+
+// Writes the bytes of `text` from p up to q from k on.
+pub fn copy(text: &[u8], p: usize, q: usize, bytes: &mut [u8], k: usize)
+    requires { ⌜ (p ≤ q) × (q ≤ length (now text)) × (k + (q - p) ≤ length (now bytes)) ⌝ }
+    ensures { λ _. ⌜ now (bytes .exit) ≡ sets (now (bytes .entry)) k (slice p q (now (text .entry))) ⌝ }
+{
+    let mut i = p;
+    let mut j = k;
+    while i < q {
+        bytes[j] = text[i];
+        i += 1;
+        j += 1;
+    }
+}
+
+// Makes all words zero.
+pub fn clear_words(words: &mut [u64])
+    ensures { λ _. ⌜ now (words .exit) ≡ replicate (length (now (words .entry))) 0 ⌝ }
+{
+    let mut i = 0;
+    while i < words.len() {
+        words[i] = 0;
+        i += 1;
+    }
+}
+
+// Makes all bytes zero.
+pub fn clear_bytes(bytes: &mut [u8])
+    ensures { λ _. ⌜ now (bytes .exit) ≡ replicate (length (now (bytes .entry))) 0 ⌝ }
+{
+    let mut i = 0;
+    while i < bytes.len() {
+        bytes[i] = 0;
+        i += 1;
+    }
+}
