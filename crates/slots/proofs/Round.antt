@@ -13,10 +13,10 @@ use lib.Ieee.Bits.{ofBits-toBits}
 use borrow.Author.Tests.{eq-eqb, ne-eqb}
 use Rattle.values.specs.declared.Value.{Value}
 use Rattle.values.specs.declared.Value.the-variants.{Undefined, Error, Boolean, Integer, Real, String}
-use Rattle.values.specs.Values.{kinds}
+use Rattle.values.specs.Values.{Sized}
 use Rattle.slots.specs.declared.Slot.{Slot}
 use Rattle.slots.specs.declared.Slot.the-variants.{Blank, Held}
-use Rattle.slots.specs.Packed.{kindOf, placeWord, loadOf, kindWord, loadWord, slotOf, slotAt, putAt, Sized, SizedSlot, Packs, Stored}
+use Rattle.slots.specs.Packed.{kindOf, placeWord, loadOf, kindWord, loadWord, slotOf, slotAt, putAt, SizedSlot, Packs, Stored}
 
 -- ---- a value's two words
 side-back : (side : Bool) (o n : ℕ) → o < 2 ^ 16 → n < 2 ^ 16 → not (eqb (placeWord side o n / 2 ^ 32) 0) ≡ side

@@ -3,12 +3,12 @@ use Prim.Native.Nat.{ℕ, _+_, _*_, _/_, _%_, _^_, _<_}
 use mathlib.Core.Path.{_≡_}
 use mathlib.Core.Bool.{Bool, not, cond}
 use mathlib.Core.List.{List}
-use lib.Dec.{T, eqb}
+use lib.Dec.{eqb}
 use lib.ListN.{length, getD, set}
-use lib.Ieee.{binary64, fits, toBits, ofBits}
+use lib.Ieee.{binary64, toBits, ofBits}
 use Rattle.values.specs.declared.Value.{Value}
 use Rattle.values.specs.declared.Value.the-variants.{Undefined, Error, Boolean, Integer, Real, String}
-use Rattle.values.specs.Values.{kinds}
+use Rattle.values.specs.Values.{kinds, Sized}
 use Rattle.slots.specs.declared.Slot.{Slot}
 use Rattle.slots.specs.declared.Slot.the-variants.{Blank, Held}
 
@@ -49,15 +49,6 @@ slotAt table i = slotOf (getD table (i * 2) 0) (getD table (i * 2 + 1) 0)
 -- the table with a slot in its place
 abbrev pub putAt : List ℕ → ℕ → Slot → List ℕ
 putAt table i s = set (set table (i * 2) (kindWord s)) (i * 2 + 1) (loadWord s)
-
--- the numbers of a value are those of its types, as those of a value in a program are
-abbrev pub Sized : Value → Type 0
-Sized Undefined = Unit {0}
-Sized Error = Unit {0}
-Sized (Boolean b) = Unit {0}
-Sized (Integer x) = x < 2 ^ 32
-Sized (Real x) = T (fits binary64 x)
-Sized (String side offset length) = (offset < 2 ^ 16) × (length < 2 ^ 16)
 
 abbrev pub SizedSlot : Slot → Type 0
 SizedSlot Blank = Unit {0}
