@@ -1,3 +1,4 @@
 pub mod Worked
 pub mod Sizes
 pub mod Exchange
+pub mod Strict

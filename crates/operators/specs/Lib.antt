@@ -1,3 +1,4 @@
 pub mod Operators
+pub mod Strict
 pub mod Expressions
 pub mod Examples
