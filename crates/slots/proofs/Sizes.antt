@@ -8,6 +8,7 @@ use lib.Dec.{eqb}
 use lib.ListN.{getD}
 use lib.Ieee.{binary64}
 use lib.Ieee.Bits.{ofBits-fits}
+use Rattle.integers.specs.Integers.{width}
 use Rattle.values.specs.declared.Value.the-variants.{Undefined, Error, Boolean, Integer, Real, String}
 use Rattle.slots.specs.declared.Slot.{Slot}
 use Rattle.slots.specs.declared.Slot.the-variants.{Blank, Held}
@@ -22,7 +23,7 @@ sized-slot k p =
     pick (eqb k 1) (Held Undefined) _ tt
     (pick (eqb k 2) (Held Error) _ tt
     (pick (eqb k 3) (Held (Boolean _)) _ tt
-    (pick (eqb k 4) (Held (Integer (p % 2 ^ 32))) _ (mod-lt p (pow-pos 32))
+    (pick (eqb k 4) (Held (Integer (p % 2 ^ width))) _ (mod-lt p (pow-pos width))
     (pick (eqb k 5) (Held (Real _)) _ (ofBits-fits binary64 p)
     (pick (eqb k 6) (Held (String _ (p / 2 ^ 16 % 2 ^ 16) (p % 2 ^ 16))) Blank (mod-lt (p / 2 ^ 16) (pow-pos 16), mod-lt p (pow-pos 16)) tt)))))
 

@@ -6,6 +6,7 @@ use mathlib.Core.List.{List}
 use lib.Dec.{eqb}
 use lib.ListN.{length, getD, set}
 use lib.Ieee.{binary64, toBits, ofBits}
+use Rattle.integers.specs.Integers.{width}
 use Rattle.values.specs.declared.Value.{Value}
 use Rattle.values.specs.declared.Value.the-variants.{Undefined, Error, Boolean, Integer, Real, String}
 use Rattle.values.specs.Values.{kinds, Sized}
@@ -37,7 +38,7 @@ slotOf k p =
     cond (eqb k 1) (Held Undefined)
     (cond (eqb k 2) (Held Error)
     (cond (eqb k 3) (Held (Boolean (not (eqb p 0))))
-    (cond (eqb k 4) (Held (Integer (p % 2 ^ 32)))
+    (cond (eqb k 4) (Held (Integer (p % 2 ^ width)))
     (cond (eqb k 5) (Held (Real (ofBits binary64 p)))
     (cond (eqb k 6) (Held (String (not (eqb (p / 2 ^ 32) 0)) (p / 2 ^ 16 % 2 ^ 16) (p % 2 ^ 16)))
     Blank)))))

@@ -5,6 +5,7 @@ use mathlib.Core.List.{List}
 use lib.ListN.{take, drop}
 use lib.Dec.{T}
 use lib.Ieee.{Float, binary64, fits}
+use Rattle.integers.specs.Integers.{width}
 use Rattle.values.specs.declared.Value.{Value}
 use Rattle.values.specs.declared.Value.the-variants.{Undefined, Error, Boolean, Integer, Real, String}
 
@@ -27,7 +28,7 @@ abbrev pub Sized : Value → Type 0
 Sized Undefined = Unit {0}
 Sized Error = Unit {0}
 Sized (Boolean b) = Unit {0}
-Sized (Integer x) = x < 2 ^ 32
+Sized (Integer x) = x < 2 ^ width
 Sized (Real x) = T (fits binary64 x)
 Sized (String side offset length) = (offset < 2 ^ 16) × (length < 2 ^ 16)
 
