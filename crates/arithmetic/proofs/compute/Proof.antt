@@ -7,19 +7,29 @@ use Rattle.arithmetic.proofs.compute.Statement.{statement}
 use Rattle.arithmetic.proofs.compute.Tie as tie
 
 returns : tie.Need-returns
-returns c = arithmetic-of (c .before .before .before .before .before .args .op) (c .before .before .before .before .before .args .a) (c .before .before .before .before .before .args .b) (c .before .before .before .before .number-only .ensures) (c .before .before .before .number-only2 .ensures) (c .before .before .pair-of .ensures) (c .enum-told .given .1)
+returns c =
+    let s = c .before .before .before .before .before in
+    arithmetic-of (s .args .op) (s .args .a) (s .args .b) (c .before .before .before .before .number-only .ensures) (c .before .before .before .number-only2 .ensures) (c .before .before .pair-of .ensures) (c .enum-told .given .1)
 
 returns-2 : tie.Need-returns-2
-returns-2 c = arithmetic-of (c .before .before .before .before .before .args .op) (c .before .before .before .before .before .args .a) (c .before .before .before .before .before .args .b) (c .before .before .before .before .number-only .ensures) (c .before .before .before .number-only2 .ensures) (c .before .before .pair-of .ensures) (c .enum-told2 .given .1)
+returns-2 c =
+    let s = c .before .before .before .before .before in
+    arithmetic-of (s .args .op) (s .args .a) (s .args .b) (c .before .before .before .before .number-only .ensures) (c .before .before .before .number-only2 .ensures) (c .before .before .pair-of .ensures) (c .enum-told2 .given .1)
 
 returns-3 : tie.Need-returns-3
-returns-3 c = c .of-integers .ensures ∙ arithmetic-of (c .before .before .before .before .before .before .before .args .op) (c .before .before .before .before .before .before .before .args .a) (c .before .before .before .before .before .before .before .args .b) (c .before .before .before .before .before .before .number-only .ensures) (c .before .before .before .before .before .number-only2 .ensures) (c .before .before .before .before .pair-of .ensures) (c .before .before .pair .given .1)
+returns-3 c =
+    let s = c .before .before .before .before .before .before .before in
+    c .of-integers .ensures ∙ arithmetic-of (s .args .op) (s .args .a) (s .args .b) (c .before .before .before .before .before .before .number-only .ensures) (c .before .before .before .before .before .number-only2 .ensures) (c .before .before .before .before .pair-of .ensures) (c .before .before .pair .given .1)
 
 returns-4 : tie.Need-returns-4
-returns-4 c = ap Real (c .of-reals .ensures) ∙ arithmetic-of (c .before .before .before .before .before .before .before .args .op) (c .before .before .before .before .before .before .before .args .a) (c .before .before .before .before .before .before .before .args .b) (c .before .before .before .before .before .before .number-only .ensures) (c .before .before .before .before .before .number-only2 .ensures) (c .before .before .before .before .pair-of .ensures) (c .before .before .pair2 .given .1)
+returns-4 c =
+    let s = c .before .before .before .before .before .before .before in
+    ap Real (c .of-reals .ensures) ∙ arithmetic-of (s .args .op) (s .args .a) (s .args .b) (c .before .before .before .before .before .before .number-only .ensures) (c .before .before .before .before .before .number-only2 .ensures) (c .before .before .before .before .pair-of .ensures) (c .before .before .pair2 .given .1)
 
 returns-5 : tie.Need-returns-5
-returns-5 c = arithmetic-of (c .before .before .before .before .before .args .op) (c .before .before .before .before .before .args .a) (c .before .before .before .before .before .args .b) (c .before .before .before .before .number-only .ensures) (c .before .before .before .number-only2 .ensures) (c .before .before .pair-of .ensures) (c .enum-told3 .given .1)
+returns-5 c =
+    let s = c .before .before .before .before .before in
+    arithmetic-of (s .args .op) (s .args .a) (s .args .b) (c .before .before .before .before .number-only .ensures) (c .before .before .before .number-only2 .ensures) (c .before .before .pair-of .ensures) (c .enum-told3 .given .1)
 
 pub compute-spec : {M : Type 1} → statement M
 compute-spec = tie.close (tie.spec

@@ -9,32 +9,38 @@ use Rattle.integers.proofs.quotient.Statement.{statement}
 use Rattle.integers.proofs.quotient.Tie as tie
 
 div-q : tie.Need-div-q
-div-q c = subst (λ (x : ℕ). 0 < x) (sym (c .magnitude2 .ensures)) (abs-pos width (c .before .before .args .b) (c .before .before .pre) (search needs))
+div-q c =
+    let s = c .before .before in
+    subst (λ (x : ℕ). 0 < x) (sym (c .magnitude2 .ensures)) (abs-pos width (s .args .b) (s .pre) (search needs))
 
 returns : tie.Need-returns
 returns c =
-    let a = c .before .before .before .before .args .a in let b = c .before .before .before .before .args .b in
+    let s = c .before .before .before .before in
+    let a = s .args .a in let b = s .args .b in
     let p = c .before .before .before .magnitude .result in let q = c .before .before .magnitude2 .result in
     as-pos width _ _ (p / q) (lt-of-le-of-lt (div-le-self p q) (search needs)) (ap₂ _/_ (c .before .before .before .magnitude .ensures) (c .before .before .magnitude2 .ensures))
     (like-low width a b (c .before .if1 .taken) (c .if2 .taken))
 
 returns-2 : tie.Need-returns-2
 returns-2 c =
-    let a = c .before .before .before .before .before .args .a in let b = c .before .before .before .before .before .args .b in
+    let s = c .before .before .before .before .before in
+    let a = s .args .a in let b = s .args .b in
     let p = c .before .before .before .before .magnitude .result in let q = c .before .before .before .magnitude2 .result in
     as-neg width _ _ (p / q) _ (negation-code width _ (p / q) (lt-of-le-of-lt (div-le-self p q) (search needs)) (c .negation .ensures))
     (ap₂ _/_ (c .before .before .before .before .magnitude .ensures) (c .before .before .before .magnitude2 .ensures)) (unlike-low width a b (c .before .before .if1 .taken) (c .before .if2 .left))
 
 returns-3 : tie.Need-returns-3
 returns-3 c =
-    let a = c .before .before .before .before .before .args .a in let b = c .before .before .before .before .before .args .b in
+    let s = c .before .before .before .before .before in
+    let a = s .args .a in let b = s .args .b in
     let p = c .before .before .before .before .magnitude .result in let q = c .before .before .before .magnitude2 .result in
     as-neg width _ _ (p / q) _ (negation-code width _ (p / q) (lt-of-le-of-lt (div-le-self p q) (search needs)) (c .negation2 .ensures))
     (ap₂ _/_ (c .before .before .before .before .magnitude .ensures) (c .before .before .before .magnitude2 .ensures)) (unlike-high width a b (c .before .before .if1 .left) (c .before .if3 .taken))
 
 returns-4 : tie.Need-returns-4
 returns-4 c =
-    let a = c .before .before .before .before .args .a in let b = c .before .before .before .before .args .b in
+    let s = c .before .before .before .before in
+    let a = s .args .a in let b = s .args .b in
     let p = c .before .before .before .magnitude .result in let q = c .before .before .magnitude2 .result in
     as-pos width _ _ (p / q) (lt-of-le-of-lt (div-le-self p q) (search needs)) (ap₂ _/_ (c .before .before .before .magnitude .ensures) (c .before .before .magnitude2 .ensures))
     (like-high width a b (c .before .if1 .left) (c .if3 .left))

@@ -15,7 +15,9 @@ abbrev μ-loop : tie.MeasureT-loop
 μ-loop a b i₀ i = length a - i
 
 returns : tie.Need-returns Inv-loop μ-loop
-returns c = sym (unequal-names (c .before .before .before .args .a .now) (c .before .before .before .args .b .now) (c .if1 .taken))
+returns c =
+    let s = c .before .before .before in
+    sym (unequal-names (s .args .a .now) (s .args .b .now) (c .if1 .taken))
 
 loop-holds : tie.Need-loop-holds Inv-loop μ-loop
 unfolding sameName
@@ -23,18 +25,24 @@ loop-holds c = (search needs, refl)
 
 returns-2 : tie.Need-returns-2 Inv-loop μ-loop
 returns-2 c =
-    sym (c .before .before .before .before .before .before .loop .inv .1
-    ∙ names-differ (c .before .before .before .before .before .before .before .before .before .before .args .a .now) (c .before .before .before .before .before .before .before .before .before .before .args .b .now) (c .before .before .before .before .before .before .loop .i) _ _ (c .before .before .before .before .before .before .before .if1 .left) (c .before .before .before .lower .ensures) (c .before .lower2 .ensures) (c .before .before .before .before .before .loop-test .taken) (c .if2 .taken))
+    let s = c .before .before .before .before .before .before .before .before .before .before in
+    let l = c .before .before .before .before .before .before .loop in
+    sym (l .inv .1
+    ∙ names-differ (s .args .a .now) (s .args .b .now) (l .i) _ _ (c .before .before .before .before .before .before .before .if1 .left) (c .before .before .before .lower .ensures) (c .before .lower2 .ensures) (c .before .before .before .before .before .loop-test .taken) (c .if2 .taken))
 
 loop-again : tie.Need-loop-again Inv-loop μ-loop
-loop-again c = (
-  search needs,
-  c .before .before .before .before .before .before .loop .inv .1
-      ∙ names-agree (c .before .before .before .before .before .before .before .before .before .before .args .a .now) (c .before .before .before .before .before .before .before .before .before .before .args .b .now) (c .before .before .before .before .before .before .loop .i) _ _ (c .before .before .before .before .before .before .before .if1 .left) (c .before .before .before .lower .ensures) (c .before .lower2 .ensures) (c .before .before .before .before .before .loop-test .taken) (c .if2 .left),
-)
+loop-again c =
+    let s = c .before .before .before .before .before .before .before .before .before .before in
+    let l = c .before .before .before .before .before .before .loop in (
+      search needs,
+      l .inv .1
+          ∙ names-agree (s .args .a .now) (s .args .b .now) (l .i) _ _ (c .before .before .before .before .before .before .before .if1 .left) (c .before .before .before .lower .ensures) (c .before .lower2 .ensures) (c .before .before .before .before .before .loop-test .taken) (c .if2 .left),
+    )
 
 returns-3 : tie.Need-returns-3 Inv-loop μ-loop
-returns-3 c = sym (c .before .loop .inv .1 ∙ names-finished (c .before .before .before .before .before .args .a .now) (c .before .before .before .before .before .args .b .now) (c .before .loop .i) (c .before .before .if1 .left) (c .loop-test .left))
+returns-3 c =
+    let s = c .before .before .before .before .before in
+    sym (c .before .loop .inv .1 ∙ names-finished (s .args .a .now) (s .args .b .now) (c .before .loop .i) (c .before .before .if1 .left) (c .loop-test .left))
 
 pub same-name-spec : {M : Type 1} → statement M
 same-name-spec = tie.close (tie.spec

@@ -19,30 +19,45 @@ unfolding stringOrder
 loop-holds c = (search needs, refl)
 
 returns : tie.Need-returns Inv-loop μ-loop
-returns c = sym (c .before .before .loop .inv .1 ∙ longer (c .before .before .before .before .before .args .a .now) (c .before .before .before .before .before .args .b .now) (c .before .before .loop .i) (c .before .loop-test .taken) (c .if1 .taken))
+returns c =
+    let s = c .before .before .before .before .before in
+    let l = c .before .before .loop in
+    sym (l .inv .1 ∙ longer (s .args .a .now) (s .args .b .now) (l .i) (c .before .loop-test .taken) (c .if1 .taken))
 
 returns-2 : tie.Need-returns-2 Inv-loop μ-loop
 returns-2 c =
-    sym (c .before .before .before .before .before .before .before .loop .inv .1
-    ∙ less (c .before .before .before .before .before .before .before .before .before .before .args .a .now) (c .before .before .before .before .before .before .before .before .before .before .args .b .now) (c .before .before .before .before .before .before .before .loop .i) _ _ (c .before .before .before .before .before .before .loop-test .taken) (c .before .before .before .before .before .if1 .left) (c .before .before .before .lower .ensures) (c .before .lower2 .ensures) (c .if2 .taken))
+    let s = c .before .before .before .before .before .before .before .before .before .before in
+    let l = c .before .before .before .before .before .before .before .loop in
+    sym (l .inv .1
+    ∙ less (s .args .a .now) (s .args .b .now) (l .i) _ _ (c .before .before .before .before .before .before .loop-test .taken) (c .before .before .before .before .before .if1 .left) (c .before .before .before .lower .ensures) (c .before .lower2 .ensures) (c .if2 .taken))
 
 returns-3 : tie.Need-returns-3 Inv-loop μ-loop
 returns-3 c =
-    sym (c .before .before .before .before .before .before .before .before .loop .inv .1
-    ∙ greater (c .before .before .before .before .before .before .before .before .before .before .before .args .a .now) (c .before .before .before .before .before .before .before .before .before .before .before .args .b .now) (c .before .before .before .before .before .before .before .before .loop .i) _ _ (c .before .before .before .before .before .before .before .loop-test .taken) (c .before .before .before .before .before .before .if1 .left) (c .before .before .before .before .lower .ensures) (c .before .before .lower2 .ensures) (c .if3 .taken))
+    let s = c .before .before .before .before .before .before .before .before .before .before .before in
+    let l = c .before .before .before .before .before .before .before .before .loop in
+    sym (l .inv .1
+    ∙ greater (s .args .a .now) (s .args .b .now) (l .i) _ _ (c .before .before .before .before .before .before .before .loop-test .taken) (c .before .before .before .before .before .before .if1 .left) (c .before .before .before .before .lower .ensures) (c .before .before .lower2 .ensures) (c .if3 .taken))
 
 loop-again : tie.Need-loop-again Inv-loop μ-loop
-loop-again c = (
-  search needs,
-  c .before .before .before .before .before .before .before .before .loop .inv .1
-      ∙ next (c .before .before .before .before .before .before .before .before .before .before .before .args .a .now) (c .before .before .before .before .before .before .before .before .before .before .before .args .b .now) (c .before .before .before .before .before .before .before .before .loop .i) _ _ (c .before .before .before .before .before .before .before .loop-test .taken) (c .before .before .before .before .before .before .if1 .left) (c .before .before .before .before .lower .ensures) (c .before .before .lower2 .ensures) (c .before .if2 .left) (c .if3 .left),
-)
+loop-again c =
+    let s = c .before .before .before .before .before .before .before .before .before .before .before in
+    let l = c .before .before .before .before .before .before .before .before .loop in (
+      search needs,
+      l .inv .1
+          ∙ next (s .args .a .now) (s .args .b .now) (l .i) _ _ (c .before .before .before .before .before .before .before .loop-test .taken) (c .before .before .before .before .before .before .if1 .left) (c .before .before .before .before .lower .ensures) (c .before .before .lower2 .ensures) (c .before .if2 .left) (c .if3 .left),
+    )
 
 returns-4 : tie.Need-returns-4 Inv-loop μ-loop
-returns-4 c = sym (c .before .before .loop .inv .1 ∙ shorter (c .before .before .before .before .before .args .a .now) (c .before .before .before .before .before .args .b .now) (c .before .before .loop .i) (c .before .loop-test .left) (c .if4 .taken))
+returns-4 c =
+    let s = c .before .before .before .before .before in
+    let l = c .before .before .loop in
+    sym (l .inv .1 ∙ shorter (s .args .a .now) (s .args .b .now) (l .i) (c .before .loop-test .left) (c .if4 .taken))
 
 returns-5 : tie.Need-returns-5 Inv-loop μ-loop
-returns-5 c = sym (c .before .before .loop .inv .1 ∙ ended (c .before .before .before .before .before .args .a .now) (c .before .before .before .before .before .args .b .now) (c .before .before .loop .i) (c .before .loop-test .left) (c .if4 .left))
+returns-5 c =
+    let s = c .before .before .before .before .before in
+    let l = c .before .before .loop in
+    sym (l .inv .1 ∙ ended (s .args .a .now) (s .args .b .now) (l .i) (c .before .loop-test .left) (c .if4 .left))
 
 pub string-order-spec : {M : Type 1} → statement M
 string-order-spec = tie.close (tie.spec

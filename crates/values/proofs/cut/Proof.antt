@@ -11,15 +11,20 @@ use Rattle.values.proofs.cut.Statement.{statement}
 use Rattle.values.proofs.cut.Tie as tie
 
 returns : tie.Need-returns
-returns c = let m = now (c .before .before .args .memory) in rw (drop-length m, drop-of-length-le m (c .before .if1 .taken)) (cut-none (length m - length m) (c .before .before .args .length))
+returns c =
+    let s = c .before .before in
+    let m = now (s .args .memory) in rw (drop-length m, drop-of-length-le m (c .before .if1 .taken)) (cut-none (length m - length m) (s .args .length))
 
 returns-2 : tie.Need-returns-2
-returns-2 c = rw (add-sub-cancel-left (c .before .before .before .args .offset) (c .before .before .before .args .length))
+returns-2 c =
+    let s = c .before .before .before in
+    rw (add-sub-cancel-left (s .args .offset) (s .args .length))
 
 returns-3 : tie.Need-returns-3
 returns-3 c =
-    let m = now (c .before .before .before .args .memory) in let a = c .before .before .before .args .offset in
-    cut-all (drop a m) (length m - a) (c .before .before .before .args .length) (length-drop a m) (let h = c .before .if2 .left in omega arith)
+    let s = c .before .before .before in
+    let m = now (s .args .memory) in let a = s .args .offset in
+    cut-all (drop a m) (length m - a) (s .args .length) (length-drop a m) (let h = c .before .if2 .left in omega arith)
 
 pub cut-spec : {M : Type 1} → statement M
 cut-spec = tie.close (tie.spec
