@@ -4,7 +4,7 @@ use mathlib.Core.Path.{_≡_, refl, sym, ap, ap₂, _∙_, subst⁻¹}
 use mathlib.Core.Bool.{Bool, true, false, cond}
 use mathlib.Core.Logic.{_⊎_, inl, inr, ⊎-elim}
 use Prim.Native.Nat.{ℕ, zero, suc, _+_, _-_, _*_, _/_, _%_, _^_, _≤_, _<_}
-use native.Mathlib.Nat.{mod-eq-of-lt, mod-eq-sub-mod, lt-of-le-of-lt, le-of-lt, mul-le-mul-left, mul-lt-mul-of-pos-right}
+use native.Mathlib.Nat.{div-zero, mod-zero, mod-eq-of-lt, mod-eq-sub-mod, lt-of-le-of-lt, le-of-lt, mul-le-mul-left, mul-lt-mul-of-pos-right}
 use native.Mathlib.Omega.{arith}
 use lib.Dec.{ltb}
 use borrow.Author.Tests.{lt-ltb, le-ltb, ltb-true, ltb-false}
@@ -122,6 +122,21 @@ module _ (w : ℕ) where
 
   pub as-neg : (z : ℤ) (n q r : ℕ) → r ≡ wrap w (negℤ (pos q)) → q ≡ n → z ≡ negℤ (pos n) → r ≡ wrap w z
   as-neg z n q r g e p = g ∙ ap (λ (x : ℕ). wrap w (negℤ (pos x))) e ∙ sym (ap (wrap w) p)
+
+  -- a zero divisor
+  pub quotient-by-zero : (a b : ℕ) → b ≡ 0 → 0 ≡ truncatedQuotient w a b
+  quotient-by-zero a b e = sym (ap (λ (n : ℕ). truncatedQuotient w a n) e ∙ ap (λ (z : ℤ). wrap w (quotZ (signed w a) z)) (low 0 (pow-pos (w - 1))) ∙ ap (wrap w) (none (signed w a)) ∙ wrap-zero)
+    where
+      none : (z : ℤ) → quotZ z (pos 0) ≡ pos 0
+      none (pos n) = ap pos (div-zero n)
+      none (negsuc n) = ap (λ (m : ℕ). negℤ (pos m)) (div-zero (suc n))
+
+  pub remainder-by-zero : (a b : ℕ) → a < 2 ^ w → b ≡ 0 → a ≡ signedRemainder w a b
+  remainder-by-zero a b h e = sym (ap (λ (n : ℕ). signedRemainder w a n) e ∙ ap (λ (z : ℤ). wrap w (remZ (signed w a) z)) (low 0 (pow-pos (w - 1))) ∙ ap (wrap w) (all (signed w a)) ∙ wrap-signed w a h)
+    where
+      all : (z : ℤ) → remZ z (pos 0) ≡ z
+      all (pos n) = ap pos (mod-zero n)
+      all (negsuc n) = ap (λ (m : ℕ). negℤ (pos m)) (mod-zero (suc n))
 
   -- the code of -a, said of the code
   pub negation-code : (r a : ℕ) → a < 2 ^ w → r ≡ wrappedNegation w a → r ≡ wrap w (negℤ (pos a))

@@ -1,6 +1,5 @@
 // Integers in two's complement, carried as unsigned codes. The arithmetic wraps.
 ghost use mathlib.Core.Path.{_≡_};
-ghost use Prim.Native.Nat.{_<_};
 ghost use lib.IntN.{natAbs};
 ghost use Rattle.integers.specs.Integers.{width, signed, wrappedSum, wrappedDifference, wrappedProduct, wrappedNegation, truncatedQuotient, signedRemainder, lessThan};
 
@@ -44,11 +43,13 @@ pub fn magnitude(a: u32) -> u32
     u32::MAX - a + 1
 }
 
-// By the magnitudes, and the sign put on the result. A zero divisor is the rule's to refuse.
+// By the magnitudes, and the sign put on the result. A zero divisor is the rule's to refuse; here it gives 0.
 pub fn quotient(a: u32, b: u32) -> u32
-    requires { ⌜ 0 < b ⌝ }
     ensures { λ r. ⌜ r ≡ truncatedQuotient width a b ⌝ }
 {
+    if b == 0 {
+        return 0;
+    }
     let q = magnitude(a) / magnitude(b);
     if a < NEGATIVE {
         if b < NEGATIVE {
@@ -62,10 +63,13 @@ pub fn quotient(a: u32, b: u32) -> u32
     q
 }
 
+// By a zero divisor the dividend remains.
 pub fn remainder(a: u32, b: u32) -> u32
-    requires { ⌜ 0 < b ⌝ }
     ensures { λ r. ⌜ r ≡ signedRemainder width a b ⌝ }
 {
+    if b == 0 {
+        return a;
+    }
     let m = magnitude(a) % magnitude(b);
     if a < NEGATIVE {
         return m;
