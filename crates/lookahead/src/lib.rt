@@ -35,7 +35,7 @@ pub enum UnaryAt {
     Absent,
 }
 
-fn symbol_code(x: Symbol) -> u8
+pub fn symbol_code(x: Symbol) -> u8
     ensures { λ r. ⌜ r ≡ codeOf (symbol x) ⌝ }
 {
     match x {
