@@ -316,6 +316,9 @@ module _ (s : List ℕ) (p : ℕ) where
     pub string-length : n ≡ length (stringAt s p)
     string-length = rw (x .2) (sym (x .1))
 
+    pub string-body : bodyOf (drop (p + 1) s) ≡ closed (stringAt s p) (q - (p + 1))
+    string-body = rw (x .2) refl
+
 module _ (s : List ℕ) (p q : ℕ) (k : Run continuesName s p q) where
   pub name-long : 64 < q - p → placed s p (nameFront (drop p s)) ≡ bad 7 p
   unfolding nameFront
@@ -605,6 +608,6 @@ span-from s at p (KV.End q) h x = tt
 span-from s at p (KV.Bad k q) h x = tt
 span-from s at p (KV.Word q r) h x = (omega arith, x .1, x .2)
 span-from s at p (KV.Constant c q r) h x = (omega arith, x .1, x .2)
-span-from s at p (KV.String n q r) h x = (omega arith, x .1, x .2, x .3)
+span-from s at p (KV.String n q r) h x = (omega arith, x .1, x .2, x .3, x .4)
 span-from s at p (KV.Operator j q r) h x = (omega arith, x .1, x .2)
 span-from s at p (KV.Symbol y q r) h x = (omega arith, x .1, x .2)

@@ -61,7 +61,7 @@ Span s at (K.End p) = Unit {0}
 Span s at (K.Bad k p) = Unit {0}
 Span s at (K.Word p q) = (at ≤ p) × (p < q) × (q ≤ length s)
 Span s at (K.Constant c p q) = (at ≤ p) × (p < q) × (q ≤ length s)
-Span s at (K.String n p q) = (at ≤ p) × (p + n < q) × (q ≤ length s) × (n ≡ length (stringAt s p))
+Span s at (K.String n p q) = (at ≤ p) × (p + n < q) × (q ≤ length s) × (n ≡ length (stringAt s p)) × (bodyOf (drop (p + 1) s) ≡ closed (stringAt s p) (q - (p + 1)))
 Span s at (K.Operator j p q) = (at ≤ p) × (p < q) × (q ≤ length s)
 Span s at (K.Symbol x p q) = (at ≤ p) × (p < q) × (q ≤ length s)
 

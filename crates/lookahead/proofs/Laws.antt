@@ -10,7 +10,7 @@ use borrow.Author.Tests.{ne-eqb}
 use Rattle.syntax.specs.Token.{Token, word, constant, operator, symbol, Tokens, next, end, bad}
 use Rattle.syntax.specs.Grammar.{bindsOf, unaryToken}
 use Rattle.syntax.specs.Reader.{codeOf, isToken}
-use Rattle.syntax.specs.Laws.Codes.{code-same, symbol-coded, operator-coded}
+use Rattle.syntax.specs.Laws.Codes.{code-same, symbol-coded, operator-low, symbol-high}
 use Rattle.syntax.specs.declared.Binary.{Binary}
 use Rattle.syntax.specs.declared.Binary.the-variants.{Or, And, Equal, NotEqual, Is, Isnt, Less, LessOrEqual, Greater, GreaterOrEqual, Add, Subtract, Multiply, Divide, Remainder}
 use Rattle.syntax.specs.declared.Unary.{Unary}
@@ -28,37 +28,6 @@ use Rattle.lookahead.specs.declared.BinaryAt.the-variants as B
 use Rattle.lookahead.specs.declared.UnaryAt.the-variants as U
 
 -- ---- numbers of symbols and operators
-
-operator-low : (j : Binary) → codeOf (operator j) ≤ 15
-operator-low Or = omega arith
-operator-low And = omega arith
-operator-low Equal = omega arith
-operator-low NotEqual = omega arith
-operator-low Is = omega arith
-operator-low Isnt = omega arith
-operator-low Less = omega arith
-operator-low LessOrEqual = omega arith
-operator-low Greater = omega arith
-operator-low GreaterOrEqual = omega arith
-operator-low Add = omega arith
-operator-low Subtract = omega arith
-operator-low Multiply = omega arith
-operator-low Divide = omega arith
-operator-low Remainder = omega arith
-
-symbol-high : (x : Symbol) → 16 ≤ codeOf (symbol x)
-symbol-high Exclamation = omega arith
-symbol-high Question = omega arith
-symbol-high Colon = omega arith
-symbol-high OpenParenthesis = omega arith
-symbol-high CloseParenthesis = omega arith
-symbol-high OpenBracket = omega arith
-symbol-high CloseBracket = omega arith
-symbol-high Semicolon = omega arith
-symbol-high Assign = omega arith
-symbol-high Point = omega arith
-symbol-high Other = omega arith
-symbol-high Parent = omega arith
 
 unary-coded : (o : Unary) → 1 ≤ codeOf (unaryToken o)
 unary-coded Not = omega arith

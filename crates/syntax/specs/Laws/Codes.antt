@@ -129,3 +129,35 @@ binds-low Subtract = omega arith
 binds-low Multiply = omega arith
 binds-low Divide = omega arith
 binds-low Remainder = omega arith
+
+-- operators have the low numbers, other symbols the high ones
+pub operator-low : (j : Binary) → codeOf (operator j) ≤ 15
+operator-low Or = omega arith
+operator-low And = omega arith
+operator-low Equal = omega arith
+operator-low NotEqual = omega arith
+operator-low Is = omega arith
+operator-low Isnt = omega arith
+operator-low Less = omega arith
+operator-low LessOrEqual = omega arith
+operator-low Greater = omega arith
+operator-low GreaterOrEqual = omega arith
+operator-low Add = omega arith
+operator-low Subtract = omega arith
+operator-low Multiply = omega arith
+operator-low Divide = omega arith
+operator-low Remainder = omega arith
+
+pub symbol-high : (x : Symbol) → 16 ≤ codeOf (symbol x)
+symbol-high Exclamation = omega arith
+symbol-high Question = omega arith
+symbol-high Colon = omega arith
+symbol-high OpenParenthesis = omega arith
+symbol-high CloseParenthesis = omega arith
+symbol-high OpenBracket = omega arith
+symbol-high CloseBracket = omega arith
+symbol-high Semicolon = omega arith
+symbol-high Assign = omega arith
+symbol-high Point = omega arith
+symbol-high Other = omega arith
+symbol-high Parent = omega arith
