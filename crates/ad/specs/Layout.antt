@@ -13,12 +13,12 @@ use Rattle.syntax.specs.declared.Unary.the-variants.{Not, Plus, Minus}
 
 -- ---- the kinds of nodes: no kind is 0, so that unused room is no node
 
-unfoldable pub unaryKind : Unary → ℕ
+abbrev pub unaryKind : Unary → ℕ
 unaryKind Not = 9
 unaryKind Plus = 10
 unaryKind Minus = 11
 
-unfoldable pub binaryKind : Binary → ℕ
+abbrev pub binaryKind : Binary → ℕ
 binaryKind Or = 13
 binaryKind And = 14
 binaryKind Equal = 15

@@ -1,0 +1,517 @@
+use borrow.Author.Needs.{needs}
+use native.Mathlib.Omega.{arith}
+use mathlib.Core.Path.{_≡_, refl, sym, _∙_, ap}
+use Prim.Native.Nat.{_+_, _-_, _*_, _≤_}
+use lib.ListN.{length}
+use Rattle.syntax.specs.Token.{symbol, operator}
+use Rattle.syntax.specs.Grammar.{unaryToken}
+use Rattle.syntax.specs.declared.Symbol.the-variants.{Question, Colon, CloseParenthesis}
+use Rattle.leaves.specs.Marks.{mark, memory}
+use Rattle.expressions.proofs.Words.{more}
+use Rattle.expressions.proofs.Laws.{fewer-left, conditional-refused, conditional-done, binary-unary, binary-refused, binary-done, rest-stop, rest-full, rest-refused, rest-more, arms-stop, arms-deep, arms-full, arms-first, arms-colon, arms-second, arms-done, unary-primary, unary-deep, unary-full, unary-refused, unary-done, primary-leaf, primary-no, primary-deep, primary-refused, primary-unclosed, primary-done, within-from}
+use Prim.Native.Nat.{ℕ, _<_}
+use borrow.Fn.Kinds.{In}
+use borrow.Fn.PlainCycle.{Measures, is, falls, and}
+use Rattle.expressions.proofs.read_arms.Reads as read-arms
+use Rattle.expressions.proofs.read_arms.Kinds as read-arms-kinds
+use Rattle.expressions.proofs.+read_arms+read_binary+read_conditional+read_primary+read_rest+read_unary.Lts-read_arms as read-arms-lts
+use Rattle.expressions.proofs.read_binary.Reads as read-binary
+use Rattle.expressions.proofs.read_binary.Kinds as read-binary-kinds
+use Rattle.expressions.proofs.+read_arms+read_binary+read_conditional+read_primary+read_rest+read_unary.Lts-read_binary as read-binary-lts
+use Rattle.expressions.proofs.read_conditional.Reads as read-conditional
+use Rattle.expressions.proofs.read_conditional.Kinds as read-conditional-kinds
+use Rattle.expressions.proofs.+read_arms+read_binary+read_conditional+read_primary+read_rest+read_unary.Lts-read_conditional as read-conditional-lts
+use Rattle.expressions.proofs.read_primary.Reads as read-primary
+use Rattle.expressions.proofs.read_primary.Kinds as read-primary-kinds
+use Rattle.expressions.proofs.+read_arms+read_binary+read_conditional+read_primary+read_rest+read_unary.Lts-read_primary as read-primary-lts
+use Rattle.expressions.proofs.read_rest.Reads as read-rest
+use Rattle.expressions.proofs.read_rest.Kinds as read-rest-kinds
+use Rattle.expressions.proofs.+read_arms+read_binary+read_conditional+read_primary+read_rest+read_unary.Lts-read_rest as read-rest-lts
+use Rattle.expressions.proofs.read_unary.Reads as read-unary
+use Rattle.expressions.proofs.read_unary.Kinds as read-unary-kinds
+use Rattle.expressions.proofs.+read_arms+read_binary+read_conditional+read_primary+read_rest+read_unary.Lts-read_unary as read-unary-lts
+use Rattle.ad.proofs.store_node.Reads as store-node-reads
+use Rattle.expressions.proofs.binary_kind.Reads as binary-kind-reads
+use Rattle.expressions.proofs.unary_kind.Reads as unary-kind-reads
+use Rattle.leaves.proofs.leaf_at.Reads as leaf-at-reads
+use Rattle.lookahead.proofs.binary_at.Reads as binary-at-reads
+use Rattle.lookahead.proofs.symbol_at.Reads as symbol-at-reads
+use Rattle.lookahead.proofs.unary_at.Reads as unary-at-reads
+use Rattle.expressions.proofs.+read_arms+read_binary+read_conditional+read_primary+read_rest+read_unary.{
+  statement,
+}
+use Rattle.expressions.proofs.+read_arms+read_binary+read_conditional+read_primary+read_rest+read_unary.Tie.{
+  close,
+}
+
+abbrev μ-read-arms : Measures 3 read-arms-kinds.ps ℕ
+μ-read-arms κs a = 16 * (length (a .0 .now) - a .1 .0) + 11
+
+abbrev μ-read-binary : Measures 3 read-binary-kinds.ps ℕ
+μ-read-binary κs a = 16 * (length (a .0 .now) - a .1 .0) + (10 - a .1 .1 .0)
+
+abbrev μ-read-conditional : Measures 3 read-conditional-kinds.ps ℕ
+μ-read-conditional κs a = 16 * (length (a .0 .now) - a .1 .0) + 10
+
+abbrev μ-read-primary : Measures 3 read-primary-kinds.ps ℕ
+μ-read-primary κs a = 16 * (length (a .0 .now) - a .1 .0) + 1
+
+abbrev μ-read-rest : Measures 3 read-rest-kinds.ps ℕ
+μ-read-rest κs a = 16 * (length (a .0 .now) - a .1 .0) + 11
+
+abbrev μ-read-unary : Measures 3 read-unary-kinds.ps ℕ
+μ-read-unary κs a = 16 * (length (a .0 .now) - a .1 .0) + 2
+
+abbrev read-arms-at : ℕ → In 3 read-arms-kinds.ps
+read-arms-at t = and 3 read-arms-kinds.ps (is 3 read-arms-kinds.ps μ-read-arms t) read-arms.Pre
+
+abbrev read-arms-below : ℕ → In 3 read-arms-kinds.ps
+read-arms-below t =
+    and 3 read-arms-kinds.ps (falls 3 read-arms-kinds.ps _<_ μ-read-arms t) read-arms.Pre
+
+abbrev read-binary-at : ℕ → In 3 read-binary-kinds.ps
+read-binary-at t =
+    and 3 read-binary-kinds.ps (is 3 read-binary-kinds.ps μ-read-binary t) read-binary.Pre
+
+abbrev read-binary-below : ℕ → In 3 read-binary-kinds.ps
+read-binary-below t =
+    and 3 read-binary-kinds.ps (falls 3 read-binary-kinds.ps _<_ μ-read-binary t) read-binary.Pre
+
+abbrev read-conditional-at : ℕ → In 3 read-conditional-kinds.ps
+read-conditional-at t =
+    and
+    3
+    read-conditional-kinds.ps
+    (is 3 read-conditional-kinds.ps μ-read-conditional t)
+    read-conditional.Pre
+
+abbrev read-conditional-below : ℕ → In 3 read-conditional-kinds.ps
+read-conditional-below t =
+    and
+    3
+    read-conditional-kinds.ps
+    (falls 3 read-conditional-kinds.ps _<_ μ-read-conditional t)
+    read-conditional.Pre
+
+abbrev read-primary-at : ℕ → In 3 read-primary-kinds.ps
+read-primary-at t =
+    and 3 read-primary-kinds.ps (is 3 read-primary-kinds.ps μ-read-primary t) read-primary.Pre
+
+abbrev read-primary-below : ℕ → In 3 read-primary-kinds.ps
+read-primary-below t =
+    and
+    3
+    read-primary-kinds.ps
+    (falls 3 read-primary-kinds.ps _<_ μ-read-primary t)
+    read-primary.Pre
+
+abbrev read-rest-at : ℕ → In 3 read-rest-kinds.ps
+read-rest-at t = and 3 read-rest-kinds.ps (is 3 read-rest-kinds.ps μ-read-rest t) read-rest.Pre
+
+abbrev read-rest-below : ℕ → In 3 read-rest-kinds.ps
+read-rest-below t =
+    and 3 read-rest-kinds.ps (falls 3 read-rest-kinds.ps _<_ μ-read-rest t) read-rest.Pre
+
+abbrev read-unary-at : ℕ → In 3 read-unary-kinds.ps
+read-unary-at t =
+    and 3 read-unary-kinds.ps (is 3 read-unary-kinds.ps μ-read-unary t) read-unary.Pre
+
+abbrev read-unary-below : ℕ → In 3 read-unary-kinds.ps
+read-unary-below t =
+    and 3 read-unary-kinds.ps (falls 3 read-unary-kinds.ps _<_ μ-read-unary t) read-unary.Pre
+
+abbrev read-arms-claims : ℕ → read-arms-lts.Claims
+read-arms-claims t = (symbol-at-reads.Asked, symbol-at-reads.Learnt, read-conditional-below t, read-conditional.Post, store-node-reads.Asked, store-node-reads.Learnt)
+
+abbrev read-binary-claims : ℕ → read-binary-lts.Claims
+read-binary-claims t = (read-unary-below t, read-unary.Post, read-binary-below t, read-binary.Post, read-rest-below t, read-rest.Post)
+
+abbrev read-conditional-claims : ℕ → read-conditional-lts.Claims
+read-conditional-claims t = (read-binary-below t, read-binary.Post, read-arms-below t, read-arms.Post)
+
+abbrev read-primary-claims : ℕ → read-primary-lts.Claims
+read-primary-claims t = (leaf-at-reads.Asked, leaf-at-reads.Learnt, read-conditional-below t, read-conditional.Post, symbol-at-reads.Asked, symbol-at-reads.Learnt)
+
+abbrev read-rest-claims : ℕ → read-rest-lts.Claims
+read-rest-claims t = (binary-at-reads.Asked, binary-at-reads.Learnt, read-binary-below t, read-binary.Post, binary-kind-reads.Asked, binary-kind-reads.Learnt, store-node-reads.Asked, store-node-reads.Learnt, read-rest-below t, read-rest.Post)
+
+abbrev read-unary-claims : ℕ → read-unary-lts.Claims
+read-unary-claims t = (unary-at-reads.Asked, unary-at-reads.Learnt, read-primary-below t, read-primary.Post, read-unary-below t, read-unary.Post, unary-kind-reads.Asked, unary-kind-reads.Learnt, store-node-reads.Asked, store-node-reads.Learnt)
+
+read-arms-symbol-at-requires : (t : ℕ) → read-arms-lts.Need-symbol-at-requires (read-arms-claims t) (read-arms-at t) read-arms.Post
+read-arms-symbol-at-requires t c κs = c .before .before .before .pre .1 .1 .place
+
+read-arms-returns : (t : ℕ) → read-arms-lts.Need-returns (read-arms-claims t) (read-arms-at t) read-arms.Post
+read-arms-returns t c = (tt, arms-deep (c .before .before .before .before .before .before .before .before .args .text .now) (c .before .before .before .before .before .before .before .before .args .at) (c .before .before .before .before .before .before .before .before .args .depth) (mark (c .before .before .before .before .before .before .before .before .args .n) (c .before .before .before .before .before .before .before .before .args .k)) (c .before .before .before .before .before .before .before .before .args .begun) (memory (c .before .before .before .before .before .before .before .before .args .words .now) (c .before .before .before .before .before .before .before .before .args .bytes .now)) _ _ (rw (c .before .before .p .given .1) at (c .before .before .before .before .symbol-at .ensures)) (memory (c .before .before .before .before .before .before .before .before .args .words .now) (c .before .before .before .before .before .before .before .before .args .bytes .now)) (c .if1 .taken))
+
+read-arms-add-if2 : (t : ℕ) → read-arms-lts.Need-add-if2 (read-arms-claims t) (read-arms-at t) read-arms.Post
+read-arms-add-if2 t c = omega (arith, c .before .before .before .before .before .before .before .before .pre .1 .1 .fits)
+
+read-arms-returns-2 : (t : ℕ) → read-arms-lts.Need-returns-2 (read-arms-claims t) (read-arms-at t) read-arms.Post
+read-arms-returns-2 t c = (tt, arms-full (c .before .before .before .before .before .before .before .before .before .args .text .now) (c .before .before .before .before .before .before .before .before .before .args .at) (c .before .before .before .before .before .before .before .before .before .args .depth) (mark (c .before .before .before .before .before .before .before .before .before .args .n) (c .before .before .before .before .before .before .before .before .before .args .k)) (c .before .before .before .before .before .before .before .before .before .args .begun) (memory (c .before .before .before .before .before .before .before .before .before .args .words .now) (c .before .before .before .before .before .before .before .before .before .args .bytes .now)) _ _ (rw (c .before .before .before .p .given .1) at (c .before .before .before .before .before .symbol-at .ensures)) (memory (c .before .before .before .before .before .before .before .before .before .args .words .now) (c .before .before .before .before .before .before .before .before .before .args .bytes .now)) (c .before .if1 .left) (c .if2 .taken))
+
+read-arms-add-read-conditional : (t : ℕ) → read-arms-lts.Need-add-read-conditional (read-arms-claims t) (read-arms-at t) read-arms.Post
+read-arms-add-read-conditional t c = omega (arith, c .before .if1 .left)
+
+read-arms-add-read-conditional-2 : (t : ℕ) → read-arms-lts.Need-add-read-conditional-2 (read-arms-claims t) (read-arms-at t) read-arms.Post
+read-arms-add-read-conditional-2 t c = omega (arith, c .if2 .left, c .before .before .before .before .before .before .before .before .before .pre .1 .1 .fits)
+
+read-arms-read-conditional-requires : (t : ℕ) → read-arms-lts.Need-read-conditional-requires (read-arms-claims t) (read-arms-at t) read-arms.Post
+read-arms-read-conditional-requires t c κs = let g = (rw (c .before .before .before .before .before .p .given .1) at (c .before .before .before .before .before .before .before .symbol-at .ensures)) in let R = c .before .before .before .before .before .before .before .before .before .before .before .pre .1 .1 in omega (arith, c .before .before .before .before .before .before .before .before .before .before .before .pre .0, c .before .before .if2 .left)
+
+read-arms-symbol-at-requires-2 : (t : ℕ) → read-arms-lts.Need-symbol-at-requires-2 (read-arms-claims t) (read-arms-at t) read-arms.Post
+read-arms-symbol-at-requires-2 t c κs = (rw (c .before .r .given .1) at (c .before .before .before .before .before .before .before .read-conditional .ensures .0)) .high
+
+read-arms-add-read-conditional-3 : (t : ℕ) → read-arms-lts.Need-add-read-conditional-3 (read-arms-claims t) (read-arms-at t) read-arms.Post
+read-arms-add-read-conditional-3 t c = omega (arith, c .before .before .before .before .before .before .before .before .before .before .before .before .before .before .before .if1 .left)
+
+read-arms-add-read-conditional-4 : (t : ℕ) → read-arms-lts.Need-add-read-conditional-4 (read-arms-claims t) (read-arms-at t) read-arms.Post
+read-arms-add-read-conditional-4 t c = let i = (rw (c .before .before .before .before .before .r .given .1) at (c .before .before .before .before .before .before .before .before .before .before .before .read-conditional .ensures .0)) in omega arith
+
+read-arms-read-conditional-requires-2 : (t : ℕ) → read-arms-lts.Need-read-conditional-requires-2 (read-arms-claims t) (read-arms-at t) read-arms.Post
+read-arms-read-conditional-requires-2 t c κs = let g = (rw (c .before .before .before .before .before .before .before .before .before .before .before .before .before .before .before .before .before .before .before .p .given .1) at (c .before .before .before .before .before .before .before .before .before .before .before .before .before .before .before .before .before .before .before .before .before .symbol-at .ensures)) in let i = (rw (c .before .before .before .before .before .before .before .r .given .1) at (c .before .before .before .before .before .before .before .before .before .before .before .before .before .read-conditional .ensures .0)) in let d = (rw (c .before .before .before .t .given .1) at (c .before .before .before .before .before .symbol-at2 .ensures)) in let R = c .before .before .before .before .before .before .before .before .before .before .before .before .before .before .before .before .before .before .before .before .before .before .before .before .before .pre .1 .1 in let l1 : length (c .before .before .before .before .before .before .before .before .before .before .before .before .before .read-conditional .last .1 .1 .1 .1 .1 .1 .0) ≡ length (c .before .before .before .before .before .before .before .before .before .before .before .before .before .before .before .before .before .before .before .before .before .before .before .before .before .args .words .now) = c .before .before .before .before .before .before .before .before .before .before .before .before .before .read-conditional .kept .1 .1 .1 .1 .1 .1 .0 in let l2 : length (c .before .before .before .before .before .before .before .before .before .before .before .before .before .read-conditional .last .1 .1 .1 .1 .1 .1 .1 .0) ≡ length (c .before .before .before .before .before .before .before .before .before .before .before .before .before .before .before .before .before .before .before .before .before .before .before .before .before .args .bytes .now) = c .before .before .before .before .before .before .before .before .before .before .before .before .before .read-conditional .kept .1 .1 .1 .1 .1 .1 .1 .0 in omega (arith, c .before .before .before .before .before .before .before .before .before .before .before .before .before .before .before .before .before .before .before .before .before .before .before .before .before .pre .0)
+
+read-arms-sub-store-node : (t : ℕ) → read-arms-lts.Need-sub-store-node (read-arms-claims t) (read-arms-at t) read-arms.Post
+read-arms-sub-store-node t c = c .before .before .before .before .before .before .before .before .before .before .before .before .before .before .before .before .before .before .before .before .before .before .before .before .before .before .before .before .before .before .before .before .before .before .pre .1 .0
+
+read-arms-sub-store-node-2 : (t : ℕ) → read-arms-lts.Need-sub-store-node-2 (read-arms-claims t) (read-arms-at t) read-arms.Post
+read-arms-sub-store-node-2 t c = (rw (c .before .before .before .before .before .before .before .before .before .before .before .before .before .before .before .before .r .given .1) at (c .before .before .before .before .before .before .before .before .before .before .before .before .before .before .before .before .before .before .before .before .before .before .read-conditional .ensures .0)) .some
+
+read-arms-sub-store-node-3 : (t : ℕ) → read-arms-lts.Need-sub-store-node-3 (read-arms-claims t) (read-arms-at t) read-arms.Post
+read-arms-sub-store-node-3 t c = (rw (c .before .before .u .given .1) at (c .before .before .before .before .before .before .before .before .read-conditional2 .ensures .0)) .some
+
+read-arms-store-node-requires : (t : ℕ) → read-arms-lts.Need-store-node-requires (read-arms-claims t) (read-arms-at t) read-arms.Post
+read-arms-store-node-requires t c κs = let j = (rw (c .before .before .u .given .1) at (c .before .before .before .before .before .before .before .before .read-conditional2 .ensures .0)) in let R = c .before .before .before .before .before .before .before .before .before .before .before .before .before .before .before .before .before .before .before .before .before .before .before .before .before .before .before .before .before .before .before .before .before .before .pre .1 .1 in let l1 : length (c .before .before .before .before .before .before .before .before .before .before .before .before .before .before .before .before .before .before .before .before .before .before .read-conditional .last .1 .1 .1 .1 .1 .1 .0) ≡ length (c .before .before .before .before .before .before .before .before .before .before .before .before .before .before .before .before .before .before .before .before .before .before .before .before .before .before .before .before .before .before .before .before .before .before .args .words .now) = c .before .before .before .before .before .before .before .before .before .before .before .before .before .before .before .before .before .before .before .before .before .before .read-conditional .kept .1 .1 .1 .1 .1 .1 .0 in let l2 : length (c .before .before .before .before .before .before .before .before .before .before .before .before .before .before .before .before .before .before .before .before .before .before .read-conditional .last .1 .1 .1 .1 .1 .1 .1 .0) ≡ length (c .before .before .before .before .before .before .before .before .before .before .before .before .before .before .before .before .before .before .before .before .before .before .before .before .before .before .before .before .before .before .before .before .before .before .args .bytes .now) = c .before .before .before .before .before .before .before .before .before .before .before .before .before .before .before .before .before .before .before .before .before .before .read-conditional .kept .1 .1 .1 .1 .1 .1 .1 .0 in let l3 : length (c .before .before .before .before .before .before .before .before .read-conditional2 .last .1 .1 .1 .1 .1 .1 .0) ≡ length (c .before .before .before .before .before .before .before .before .before .before .before .before .before .before .before .before .before .before .before .before .before .before .read-conditional .last .1 .1 .1 .1 .1 .1 .0) = c .before .before .before .before .before .before .before .before .read-conditional2 .kept .1 .1 .1 .1 .1 .1 .0 in omega arith
+
+read-arms-add-t50 : (t : ℕ) → read-arms-lts.Need-add-t50 (read-arms-claims t) (read-arms-at t) read-arms.Post
+read-arms-add-t50 t c = let j = (rw (c .before .before .before .before .before .u .given .1) at (c .before .before .before .before .before .before .before .before .before .before .before .read-conditional2 .ensures .0)) in omega arith
+
+read-arms-returns-3 : (t : ℕ) → read-arms-lts.Need-returns-3 (read-arms-claims t) (read-arms-at t) read-arms.Post
+read-arms-returns-3 t c = let R = c .before .before .before .before .before .before .pre .1 .1 in (record { low = omega arith; high = R .place; grows = omega arith; some = c .before .before .before .before .before .before .pre .1 .0; fits = R .fits; short = R .short; fewer = omega arith }, arms-stop (c .before .before .before .before .before .before .args .text .now) (c .before .before .before .before .before .before .args .at) (c .before .before .before .before .before .before .args .depth) (mark (c .before .before .before .before .before .before .args .n) (c .before .before .before .before .before .before .args .k)) (c .before .before .before .before .before .before .args .begun) (memory (c .before .before .before .before .before .before .args .words .now) (c .before .before .before .before .before .before .args .bytes .now)) ((rw (c .enum-told .given .1) at (c .before .before .symbol-at .ensures)) .0))
+
+read-arms-returns-4 : (t : ℕ) → read-arms-lts.Need-returns-4 (read-arms-claims t) (read-arms-at t) read-arms.Post
+read-arms-returns-4 t c = (tt, arms-first (c .before .before .before .before .before .before .before .before .before .before .before .before .before .before .before .before .before .before .before .args .text .now) (c .before .before .before .before .before .before .before .before .before .before .before .before .before .before .before .before .before .before .before .args .at) (c .before .before .before .before .before .before .before .before .before .before .before .before .before .before .before .before .before .before .before .args .depth) (mark (c .before .before .before .before .before .before .before .before .before .before .before .before .before .before .before .before .before .before .before .args .n) (c .before .before .before .before .before .before .before .before .before .before .before .before .before .before .before .before .before .before .before .args .k)) (c .before .before .before .before .before .before .before .before .before .before .before .before .before .before .before .before .before .before .before .args .begun) (memory (c .before .before .before .before .before .before .before .before .before .before .before .before .before .before .before .before .before .before .before .args .words .now) (c .before .before .before .before .before .before .before .before .before .before .before .before .before .before .before .before .before .before .before .args .bytes .now)) _ _ (rw (c .before .before .before .before .before .before .before .before .before .before .before .before .before .p .given .1) at (c .before .before .before .before .before .before .before .before .before .before .before .before .before .before .before .symbol-at .ensures)) (c .before .before .before .before .before .before .before .before .before .before .before .if1 .left) (c .before .before .before .before .before .before .before .before .before .before .if2 .left) (memory (c .before .before .before .before .before .before .before .before .before .before .before .before .before .before .before .before .before .before .before .args .words .now) (c .before .before .before .before .before .before .before .before .before .before .before .before .before .before .before .before .before .before .before .args .bytes .now)) (memory (c .before .before .before .before .before .before .before .before .before .before .before .before .before .before .before .before .before .before .before .args .words .now) (c .before .before .before .before .before .before .before .before .before .before .before .before .before .before .before .before .before .before .before .args .bytes .now)) _ _ (rw (c .before .y .given .1) at (c .before .before .before .before .before .before .before .read-conditional .ensures .1)))
+
+read-arms-returns-5 : (t : ℕ) → read-arms-lts.Need-returns-5 (read-arms-claims t) (read-arms-at t) read-arms.Post
+read-arms-returns-5 t c = (tt, arms-colon (c .before .before .before .before .before .before .before .before .before .before .before .before .before .before .before .before .before .before .before .before .before .before .before .args .text .now) (c .before .before .before .before .before .before .before .before .before .before .before .before .before .before .before .before .before .before .before .before .before .before .before .args .at) (c .before .before .before .before .before .before .before .before .before .before .before .before .before .before .before .before .before .before .before .before .before .before .before .args .depth) (mark (c .before .before .before .before .before .before .before .before .before .before .before .before .before .before .before .before .before .before .before .before .before .before .before .args .n) (c .before .before .before .before .before .before .before .before .before .before .before .before .before .before .before .before .before .before .before .before .before .before .before .args .k)) (c .before .before .before .before .before .before .before .before .before .before .before .before .before .before .before .before .before .before .before .before .before .before .before .args .begun) (memory (c .before .before .before .before .before .before .before .before .before .before .before .before .before .before .before .before .before .before .before .before .before .before .before .args .words .now) (c .before .before .before .before .before .before .before .before .before .before .before .before .before .before .before .before .before .before .before .before .before .before .before .args .bytes .now)) _ _ (rw (c .before .before .before .before .before .before .before .before .before .before .before .before .before .before .before .before .before .p .given .1) at (c .before .before .before .before .before .before .before .before .before .before .before .before .before .before .before .before .before .before .before .symbol-at .ensures)) (c .before .before .before .before .before .before .before .before .before .before .before .before .before .before .before .if1 .left) (c .before .before .before .before .before .before .before .before .before .before .before .before .before .before .if2 .left) (memory (c .before .before .before .before .before .before .before .before .before .before .before .read-conditional .last .1 .1 .1 .1 .1 .1 .0) (c .before .before .before .before .before .before .before .before .before .before .before .read-conditional .last .1 .1 .1 .1 .1 .1 .1 .0)) _ (mark (c .before .before .before .before .before .r .given .0 .1 .0) (c .before .before .before .before .before .r .given .0 .1 .1 .0)) (rw (c .before .before .before .before .before .r .given .1) at (c .before .before .before .before .before .before .before .before .before .before .before .read-conditional .ensures .1)) (memory (c .before .before .before .before .before .before .before .before .before .before .before .before .before .before .before .before .before .before .before .before .before .before .before .args .words .now) (c .before .before .before .before .before .before .before .before .before .before .before .before .before .before .before .before .before .before .before .before .before .before .before .args .bytes .now)) _ _ (rw (c .before .y2 .given .1) at (c .before .before .before .symbol-at2 .ensures)))
+
+read-arms-returns-6 : (t : ℕ) → read-arms-lts.Need-returns-6 (read-arms-claims t) (read-arms-at t) read-arms.Post
+read-arms-returns-6 t c = (tt, arms-second (c .before .before .before .before .before .before .before .before .before .before .before .before .before .before .before .before .before .before .before .before .before .before .before .before .before .before .before .before .before .before .before .before .before .args .text .now) (c .before .before .before .before .before .before .before .before .before .before .before .before .before .before .before .before .before .before .before .before .before .before .before .before .before .before .before .before .before .before .before .before .before .args .at) (c .before .before .before .before .before .before .before .before .before .before .before .before .before .before .before .before .before .before .before .before .before .before .before .before .before .before .before .before .before .before .before .before .before .args .depth) (mark (c .before .before .before .before .before .before .before .before .before .before .before .before .before .before .before .before .before .before .before .before .before .before .before .before .before .before .before .before .before .before .before .before .before .args .n) (c .before .before .before .before .before .before .before .before .before .before .before .before .before .before .before .before .before .before .before .before .before .before .before .before .before .before .before .before .before .before .before .before .before .args .k)) (c .before .before .before .before .before .before .before .before .before .before .before .before .before .before .before .before .before .before .before .before .before .before .before .before .before .before .before .before .before .before .before .before .before .args .begun) (memory (c .before .before .before .before .before .before .before .before .before .before .before .before .before .before .before .before .before .before .before .before .before .before .before .before .before .before .before .before .before .before .before .before .before .args .words .now) (c .before .before .before .before .before .before .before .before .before .before .before .before .before .before .before .before .before .before .before .before .before .before .before .before .before .before .before .before .before .before .before .before .before .args .bytes .now)) _ _ (rw (c .before .before .before .before .before .before .before .before .before .before .before .before .before .before .before .before .before .before .before .before .before .before .before .before .before .before .before .p .given .1) at (c .before .before .before .before .before .before .before .before .before .before .before .before .before .before .before .before .before .before .before .before .before .before .before .before .before .before .before .before .before .symbol-at .ensures)) (c .before .before .before .before .before .before .before .before .before .before .before .before .before .before .before .before .before .before .before .before .before .before .before .before .before .if1 .left) (c .before .before .before .before .before .before .before .before .before .before .before .before .before .before .before .before .before .before .before .before .before .before .before .before .if2 .left) (memory (c .before .before .before .before .before .before .before .before .before .before .before .before .before .before .before .before .before .before .before .before .before .read-conditional .last .1 .1 .1 .1 .1 .1 .0) (c .before .before .before .before .before .before .before .before .before .before .before .before .before .before .before .before .before .before .before .before .before .read-conditional .last .1 .1 .1 .1 .1 .1 .1 .0)) _ (mark (c .before .before .before .before .before .before .before .before .before .before .before .before .before .before .before .r .given .0 .1 .0) (c .before .before .before .before .before .before .before .before .before .before .before .before .before .before .before .r .given .0 .1 .1 .0)) (rw (c .before .before .before .before .before .before .before .before .before .before .before .before .before .before .before .r .given .1) at (c .before .before .before .before .before .before .before .before .before .before .before .before .before .before .before .before .before .before .before .before .before .read-conditional .ensures .1)) _ _ (rw (c .before .before .before .before .before .before .before .before .before .before .before .t .given .1) at (c .before .before .before .before .before .before .before .before .before .before .before .before .before .symbol-at2 .ensures)) ((rw (c .before .before .before .before .before .before .before .before .before .before .before .before .before .before .before .r .given .1) at (c .before .before .before .before .before .before .before .before .before .before .before .before .before .before .before .before .before .before .before .before .before .read-conditional .ensures .0)) .fewer) (memory (c .before .before .before .before .before .before .before .before .before .before .before .before .before .before .before .before .before .before .before .before .before .before .before .before .before .before .before .before .before .before .before .before .before .args .words .now) (c .before .before .before .before .before .before .before .before .before .before .before .before .before .before .before .before .before .before .before .before .before .before .before .before .before .before .before .before .before .before .before .before .before .args .bytes .now)) (memory (c .before .before .before .before .before .before .before .before .before .before .before .before .before .before .before .before .before .before .before .before .before .before .before .before .before .before .before .before .before .before .before .before .before .args .words .now) (c .before .before .before .before .before .before .before .before .before .before .before .before .before .before .before .before .before .before .before .before .before .before .before .before .before .before .before .before .before .before .before .before .before .args .bytes .now)) _ _ (rw (c .before .y3 .given .1) at (c .before .before .before .before .before .before .before .read-conditional2 .ensures .1)))
+
+read-arms-returns-7 : (t : ℕ) → read-arms-lts.Need-returns-7 (read-arms-claims t) (read-arms-at t) read-arms.Post
+read-arms-returns-7 t c = let g = (rw (c .before .before .before .before .before .before .before .before .before .before .before .before .before .before .before .before .before .before .before .before .before .before .before .before .before .before .before .before .before .before .before .p .given .1) at (c .before .before .before .before .before .before .before .before .before .before .before .before .before .before .before .before .before .before .before .before .before .before .before .before .before .before .before .before .before .before .before .before .before .symbol-at .ensures)) in let i = (rw (c .before .before .before .before .before .before .before .before .before .before .before .before .before .before .before .before .before .before .before .r .given .1) at (c .before .before .before .before .before .before .before .before .before .before .before .before .before .before .before .before .before .before .before .before .before .before .before .before .before .read-conditional .ensures .0)) in let d = (rw (c .before .before .before .before .before .before .before .before .before .before .before .before .before .before .before .t .given .1) at (c .before .before .before .before .before .before .before .before .before .before .before .before .before .before .before .before .before .symbol-at2 .ensures)) in let j = (rw (c .before .before .before .before .before .u .given .1) at (c .before .before .before .before .before .before .before .before .before .before .before .read-conditional2 .ensures .0)) in let f1 = fewer-left (c .before .before .before .before .before .before .before .before .before .before .before .before .before .before .before .before .before .before .before .before .before .before .before .before .before .before .before .before .before .before .before .before .before .before .before .before .before .args .text .now) _ _ _ (symbol Question) g in let f2 = fewer-left (c .before .before .before .before .before .before .before .before .before .before .before .before .before .before .before .before .before .before .before .before .before .before .before .before .before .before .before .before .before .before .before .before .before .before .before .before .before .args .text .now) _ _ _ (symbol Colon) d in (record { low = omega arith; high = j .high; grows = omega arith; some = omega arith; fits = omega arith; short = j .short; fewer = omega arith }, arms-done (c .before .before .before .before .before .before .before .before .before .before .before .before .before .before .before .before .before .before .before .before .before .before .before .before .before .before .before .before .before .before .before .before .before .before .before .before .before .args .text .now) (c .before .before .before .before .before .before .before .before .before .before .before .before .before .before .before .before .before .before .before .before .before .before .before .before .before .before .before .before .before .before .before .before .before .before .before .before .before .args .at) (c .before .before .before .before .before .before .before .before .before .before .before .before .before .before .before .before .before .before .before .before .before .before .before .before .before .before .before .before .before .before .before .before .before .before .before .before .before .args .depth) (mark (c .before .before .before .before .before .before .before .before .before .before .before .before .before .before .before .before .before .before .before .before .before .before .before .before .before .before .before .before .before .before .before .before .before .before .before .before .before .args .n) (c .before .before .before .before .before .before .before .before .before .before .before .before .before .before .before .before .before .before .before .before .before .before .before .before .before .before .before .before .before .before .before .before .before .before .before .before .before .args .k)) (c .before .before .before .before .before .before .before .before .before .before .before .before .before .before .before .before .before .before .before .before .before .before .before .before .before .before .before .before .before .before .before .before .before .before .before .before .before .args .begun) (memory (c .before .before .before .before .before .before .before .before .before .before .before .before .before .before .before .before .before .before .before .before .before .before .before .before .before .before .before .before .before .before .before .before .before .before .before .before .before .args .words .now) (c .before .before .before .before .before .before .before .before .before .before .before .before .before .before .before .before .before .before .before .before .before .before .before .before .before .before .before .before .before .before .before .before .before .before .before .before .before .args .bytes .now)) _ _ g (c .before .before .before .before .before .before .before .before .before .before .before .before .before .before .before .before .before .before .before .before .before .before .before .before .before .before .before .before .before .if1 .left) (c .before .before .before .before .before .before .before .before .before .before .before .before .before .before .before .before .before .before .before .before .before .before .before .before .before .before .before .before .if2 .left) (memory (c .before .before .before .before .before .before .before .before .before .before .before .before .before .before .before .before .before .before .before .before .before .before .before .before .before .read-conditional .last .1 .1 .1 .1 .1 .1 .0) (c .before .before .before .before .before .before .before .before .before .before .before .before .before .before .before .before .before .before .before .before .before .before .before .before .before .read-conditional .last .1 .1 .1 .1 .1 .1 .1 .0)) _ (mark (c .before .before .before .before .before .before .before .before .before .before .before .before .before .before .before .before .before .before .before .r .given .0 .1 .0) (c .before .before .before .before .before .before .before .before .before .before .before .before .before .before .before .before .before .before .before .r .given .0 .1 .1 .0)) (rw (c .before .before .before .before .before .before .before .before .before .before .before .before .before .before .before .before .before .before .before .r .given .1) at (c .before .before .before .before .before .before .before .before .before .before .before .before .before .before .before .before .before .before .before .before .before .before .before .before .before .read-conditional .ensures .1)) _ _ d (i .fewer) (memory (c .before .before .before .before .before .before .before .before .before .before .before .read-conditional2 .last .1 .1 .1 .1 .1 .1 .0) (c .before .before .before .before .before .before .before .before .before .before .before .read-conditional2 .last .1 .1 .1 .1 .1 .1 .1 .0)) _ _ (mark (c .before .before .before .before .before .u .given .0 .1 .0) (c .before .before .before .before .before .u .given .0 .1 .1 .0)) (rw (c .before .before .before .before .before .u .given .1) at (c .before .before .before .before .before .before .before .before .before .before .before .read-conditional2 .ensures .1)) (c .before .before .store-node .ensures))
+
+read-binary-read-unary-requires : (t : ℕ) → read-binary-lts.Need-read-unary-requires (read-binary-claims t) (read-binary-at t) read-binary.Post
+read-binary-read-unary-requires t c κs = omega (arith, c .before .before .before .before .before .before .pre .0, c .before .before .before .before .before .before .pre .1)
+
+read-binary-returns : (t : ℕ) → read-binary-lts.Need-returns (read-binary-claims t) (read-binary-at t) read-binary.Post
+read-binary-returns t c = (c .before .before .before .before .read-unary .ensures .0, binary-unary (c .before .before .before .before .before .before .before .before .before .before .before .args .text .now) (c .before .before .before .before .before .before .before .before .before .before .before .args .at) (c .before .before .before .before .before .before .before .before .before .before .before .args .depth) (mark (c .before .before .before .before .before .before .before .before .before .before .before .args .n) (c .before .before .before .before .before .before .before .before .before .before .before .args .k)) (c .before .before .before .before .before .before .before .before .before .before .before .args .begun) (memory (c .before .before .before .before .before .before .before .before .before .before .before .args .words .now) (c .before .before .before .before .before .before .before .before .before .before .before .args .bytes .now)) (c .before .before .before .before .before .before .before .before .before .before .before .args .level) _ (c .before .before .before .before .read-unary .result) (c .before .before .before .before .before .before .before .if1 .taken) (c .before .before .before .before .before .before .before .before .before .before .before .pre .1 .0) (c .before .before .before .before .read-unary .ensures .1))
+
+read-binary-add-read-binary : (t : ℕ) → read-binary-lts.Need-add-read-binary (read-binary-claims t) (read-binary-at t) read-binary.Post
+read-binary-add-read-binary t c = omega (arith, c .if1 .left)
+
+read-binary-read-binary-requires : (t : ℕ) → read-binary-lts.Need-read-binary-requires (read-binary-claims t) (read-binary-at t) read-binary.Post
+read-binary-read-binary-requires t c κs = omega (arith, c .before .before .before .before .before .before .pre .0, c .before .before .before .before .before .before .pre .1, c .before .before .if1 .left)
+
+read-binary-read-rest-requires : (t : ℕ) → read-binary-lts.Need-read-rest-requires (read-binary-claims t) (read-binary-at t) read-binary.Post
+read-binary-read-rest-requires t c κs = let i = (rw (c .before .before .before .q .given .1) at (c .before .before .before .before .before .before .before .before .before .read-binary .ensures .0)) in let R = c .before .before .before .before .before .before .before .before .before .before .before .before .before .before .before .before .pre .1 .1 in let l1 : length (c .before .before .before .before .before .before .before .before .before .read-binary .last .1 .1 .1 .1 .1 .1 .1 .0) ≡ length (c .before .before .before .before .before .before .before .before .before .before .before .before .before .before .before .before .args .words .now) = c .before .before .before .before .before .before .before .before .before .read-binary .kept .1 .1 .1 .1 .1 .1 .1 .0 in let l2 : length (c .before .before .before .before .before .before .before .before .before .read-binary .last .1 .1 .1 .1 .1 .1 .1 .1 .0) ≡ length (c .before .before .before .before .before .before .before .before .before .before .before .before .before .before .before .before .args .bytes .now) = c .before .before .before .before .before .before .before .before .before .read-binary .kept .1 .1 .1 .1 .1 .1 .1 .1 .0 in omega (arith, c .before .before .before .before .before .before .before .before .before .before .before .before .before .before .before .before .pre .0, c .before .before .before .before .before .before .before .before .before .before .before .before .before .before .before .before .pre .1 .0, c .before .before .before .before .before .before .before .before .before .before .before .before .if1 .left)
+
+read-binary-returns-2 : (t : ℕ) → read-binary-lts.Need-returns-2 (read-binary-claims t) (read-binary-at t) read-binary.Post
+read-binary-returns-2 t c = (tt, binary-refused (c .before .before .before .before .before .before .before .before .before .before .before .before .before .before .args .text .now) (c .before .before .before .before .before .before .before .before .before .before .before .before .before .before .args .at) (c .before .before .before .before .before .before .before .before .before .before .before .before .before .before .args .depth) (mark (c .before .before .before .before .before .before .before .before .before .before .before .before .before .before .args .n) (c .before .before .before .before .before .before .before .before .before .before .before .before .before .before .args .k)) (c .before .before .before .before .before .before .before .before .before .before .before .before .before .before .args .begun) (memory (c .before .before .before .before .before .before .before .before .before .before .before .before .before .before .args .words .now) (c .before .before .before .before .before .before .before .before .before .before .before .before .before .before .args .bytes .now)) (c .before .before .before .before .before .before .before .before .before .before .before .before .before .before .args .level) (memory (c .before .before .before .before .before .before .before .before .before .before .before .before .before .before .args .words .now) (c .before .before .before .before .before .before .before .before .before .before .before .before .before .before .args .bytes .now)) (memory (c .before .before .before .before .before .before .before .before .before .before .before .before .before .before .args .words .now) (c .before .before .before .before .before .before .before .before .before .before .before .before .before .before .args .bytes .now)) _ _ (c .before .before .before .before .before .before .before .before .before .before .if1 .left) (rw (c .before .y .given .1) at (c .before .before .before .before .before .before .before .read-binary .ensures .1)))
+
+read-binary-returns-3 : (t : ℕ) → read-binary-lts.Need-returns-3 (read-binary-claims t) (read-binary-at t) read-binary.Post
+read-binary-returns-3 t c = let i = (rw (c .before .before .before .before .before .before .before .before .q .given .1) at (c .before .before .before .before .before .before .before .before .before .before .before .before .before .before .read-binary .ensures .0)) in (within-from (c .before .before .before .before .before .before .before .before .before .before .before .before .before .before .before .before .before .before .before .before .before .args .text .now) (c .before .before .before .before .before .before .before .before .before .before .before .before .before .before .before .before .before .before .before .before .before .args .at) _ 1 (mark (c .before .before .before .before .before .before .before .before .before .before .before .before .before .before .before .before .before .before .before .before .before .args .n) (c .before .before .before .before .before .before .before .before .before .before .before .before .before .before .before .before .before .before .before .before .before .args .k)) (mark (c .before .before .before .before .before .before .before .before .q .given .0 .1 .0) (c .before .before .before .before .before .before .before .before .q .given .0 .1 .1 .0)) (c .before .before .before .before .before .before .before .before .before .before .before .before .before .before .before .before .before .before .before .before .before .args .begun) (c .before .before .before .before .read-rest .result) (i .low) (i .fewer) (i .grows) (c .before .before .before .before .read-rest .ensures .0), binary-done (c .before .before .before .before .before .before .before .before .before .before .before .before .before .before .before .before .before .before .before .before .before .args .text .now) (c .before .before .before .before .before .before .before .before .before .before .before .before .before .before .before .before .before .before .before .before .before .args .at) (c .before .before .before .before .before .before .before .before .before .before .before .before .before .before .before .before .before .before .before .before .before .args .depth) (mark (c .before .before .before .before .before .before .before .before .before .before .before .before .before .before .before .before .before .before .before .before .before .args .n) (c .before .before .before .before .before .before .before .before .before .before .before .before .before .before .before .before .before .before .before .before .before .args .k)) (c .before .before .before .before .before .before .before .before .before .before .before .before .before .before .before .before .before .before .before .before .before .args .begun) (memory (c .before .before .before .before .before .before .before .before .before .before .before .before .before .before .before .before .before .before .before .before .before .args .words .now) (c .before .before .before .before .before .before .before .before .before .before .before .before .before .before .before .before .before .before .before .before .before .args .bytes .now)) (c .before .before .before .before .before .before .before .before .before .before .before .before .before .before .before .before .before .before .before .before .before .args .level) (memory (c .before .before .before .before .before .before .before .before .before .before .before .before .before .before .read-binary .last .1 .1 .1 .1 .1 .1 .1 .0) (c .before .before .before .before .before .before .before .before .before .before .before .before .before .before .read-binary .last .1 .1 .1 .1 .1 .1 .1 .1 .0)) _ _ (mark (c .before .before .before .before .before .before .before .before .q .given .0 .1 .0) (c .before .before .before .before .before .before .before .before .q .given .0 .1 .1 .0)) (c .before .before .before .before .read-rest .result) (c .before .before .before .before .before .before .before .before .before .before .before .before .before .before .before .before .before .if1 .left) (rw (c .before .before .before .before .before .before .before .before .q .given .1) at (c .before .before .before .before .before .before .before .before .before .before .before .before .before .before .read-binary .ensures .1)) (c .before .before .before .before .read-rest .ensures .1) (i .fewer))
+
+read-conditional-read-binary-requires : (t : ℕ) → read-conditional-lts.Need-read-binary-requires (read-conditional-claims t) (read-conditional-at t) read-conditional.Post
+read-conditional-read-binary-requires t c κs = omega (arith, c .before .before .before .before .before .pre .0, c .before .before .before .before .before .pre .1)
+
+read-conditional-read-arms-requires : (t : ℕ) → read-conditional-lts.Need-read-arms-requires (read-conditional-claims t) (read-conditional-at t) read-conditional.Post
+read-conditional-read-arms-requires t c κs = let i = (rw (c .before .before .before .q .given .1) at (c .before .before .before .before .before .before .before .before .before .read-binary .ensures .0)) in let R = c .before .before .before .before .before .before .before .before .before .before .before .before .before .before .before .pre .1 in let l1 : length (c .before .before .before .before .before .before .before .before .before .read-binary .last .1 .1 .1 .1 .1 .1 .1 .0) ≡ length (c .before .before .before .before .before .before .before .before .before .before .before .before .before .before .before .args .words .now) = c .before .before .before .before .before .before .before .before .before .read-binary .kept .1 .1 .1 .1 .1 .1 .1 .0 in let l2 : length (c .before .before .before .before .before .before .before .before .before .read-binary .last .1 .1 .1 .1 .1 .1 .1 .1 .0) ≡ length (c .before .before .before .before .before .before .before .before .before .before .before .before .before .before .before .args .bytes .now) = c .before .before .before .before .before .before .before .before .before .read-binary .kept .1 .1 .1 .1 .1 .1 .1 .1 .0 in omega (arith, c .before .before .before .before .before .before .before .before .before .before .before .before .before .before .before .pre .0)
+
+read-conditional-returns : (t : ℕ) → read-conditional-lts.Need-returns (read-conditional-claims t) (read-conditional-at t) read-conditional.Post
+read-conditional-returns t c = (tt, conditional-refused (c .before .before .before .before .before .before .before .before .before .before .before .before .before .args .text .now) (c .before .before .before .before .before .before .before .before .before .before .before .before .before .args .at) (c .before .before .before .before .before .before .before .before .before .before .before .before .before .args .depth) (mark (c .before .before .before .before .before .before .before .before .before .before .before .before .before .args .n) (c .before .before .before .before .before .before .before .before .before .before .before .before .before .args .k)) (c .before .before .before .before .before .before .before .before .before .before .before .before .before .args .begun) (memory (c .before .before .before .before .before .before .before .before .before .before .before .before .before .args .words .now) (c .before .before .before .before .before .before .before .before .before .before .before .before .before .args .bytes .now)) (memory (c .before .before .before .before .before .before .before .before .before .before .before .before .before .args .words .now) (c .before .before .before .before .before .before .before .before .before .before .before .before .before .args .bytes .now)) (memory (c .before .before .before .before .before .before .before .before .before .before .before .before .before .args .words .now) (c .before .before .before .before .before .before .before .before .before .before .before .before .before .args .bytes .now)) _ _ (rw (c .before .y .given .1) at (c .before .before .before .before .before .before .before .read-binary .ensures .1)))
+
+read-conditional-returns-2 : (t : ℕ) → read-conditional-lts.Need-returns-2 (read-conditional-claims t) (read-conditional-at t) read-conditional.Post
+read-conditional-returns-2 t c = let i = (rw (c .before .before .before .before .before .before .before .before .q .given .1) at (c .before .before .before .before .before .before .before .before .before .before .before .before .before .before .read-binary .ensures .0)) in (within-from (c .before .before .before .before .before .before .before .before .before .before .before .before .before .before .before .before .before .before .before .before .args .text .now) (c .before .before .before .before .before .before .before .before .before .before .before .before .before .before .before .before .before .before .before .before .args .at) _ 1 (mark (c .before .before .before .before .before .before .before .before .before .before .before .before .before .before .before .before .before .before .before .before .args .n) (c .before .before .before .before .before .before .before .before .before .before .before .before .before .before .before .before .before .before .before .before .args .k)) (mark (c .before .before .before .before .before .before .before .before .q .given .0 .1 .0) (c .before .before .before .before .before .before .before .before .q .given .0 .1 .1 .0)) (c .before .before .before .before .before .before .before .before .before .before .before .before .before .before .before .before .before .before .before .before .args .begun) (c .before .before .before .before .read-arms .result) (i .low) (i .fewer) (i .grows) (c .before .before .before .before .read-arms .ensures .0), conditional-done (c .before .before .before .before .before .before .before .before .before .before .before .before .before .before .before .before .before .before .before .before .args .text .now) (c .before .before .before .before .before .before .before .before .before .before .before .before .before .before .before .before .before .before .before .before .args .at) (c .before .before .before .before .before .before .before .before .before .before .before .before .before .before .before .before .before .before .before .before .args .depth) (mark (c .before .before .before .before .before .before .before .before .before .before .before .before .before .before .before .before .before .before .before .before .args .n) (c .before .before .before .before .before .before .before .before .before .before .before .before .before .before .before .before .before .before .before .before .args .k)) (c .before .before .before .before .before .before .before .before .before .before .before .before .before .before .before .before .before .before .before .before .args .begun) (memory (c .before .before .before .before .before .before .before .before .before .before .before .before .before .before .before .before .before .before .before .before .args .words .now) (c .before .before .before .before .before .before .before .before .before .before .before .before .before .before .before .before .before .before .before .before .args .bytes .now)) (memory (c .before .before .before .before .before .before .before .before .before .before .before .before .before .before .read-binary .last .1 .1 .1 .1 .1 .1 .1 .0) (c .before .before .before .before .before .before .before .before .before .before .before .before .before .before .read-binary .last .1 .1 .1 .1 .1 .1 .1 .1 .0)) _ _ (mark (c .before .before .before .before .before .before .before .before .q .given .0 .1 .0) (c .before .before .before .before .before .before .before .before .q .given .0 .1 .1 .0)) (c .before .before .before .before .read-arms .result) (rw (c .before .before .before .before .before .before .before .before .q .given .1) at (c .before .before .before .before .before .before .before .before .before .before .before .before .before .before .read-binary .ensures .1)) (c .before .before .before .before .read-arms .ensures .1) (i .fewer))
+
+read-primary-leaf-at-requires : (t : ℕ) → read-primary-lts.Need-leaf-at-requires (read-primary-claims t) (read-primary-at t) read-primary.Post
+read-primary-leaf-at-requires t c κs = c .before .before .before .before .before .pre .1
+
+read-primary-returns : (t : ℕ) → read-primary-lts.Need-returns (read-primary-claims t) (read-primary-at t) read-primary.Post
+read-primary-returns t c = let i = (rw (c .before .before .p .given .1) at (c .before .before .before .before .before .before .before .before .leaf-at .ensures .0)) in (tt, primary-deep (c .before .before .before .before .before .before .before .before .before .before .before .before .before .before .args .text .now) (c .before .before .before .before .before .before .before .before .before .before .before .before .before .before .args .at) (c .before .before .before .before .before .before .before .before .before .before .before .before .before .before .args .depth) (mark (c .before .before .before .before .before .before .before .before .before .before .before .before .before .before .args .n) (c .before .before .before .before .before .before .before .before .before .before .before .before .before .before .args .k)) (c .before .before .before .before .before .before .before .before .before .before .before .before .before .before .args .begun) (memory (c .before .before .before .before .before .before .before .before .before .before .before .before .before .before .args .words .now) (c .before .before .before .before .before .before .before .before .before .before .before .before .before .before .args .bytes .now)) _ _ (memory (c .before .before .before .before .before .before .before .before .leaf-at .last .1 .1 .1 .1 .1 .0) (c .before .before .before .before .before .before .before .before .leaf-at .last .1 .1 .1 .1 .1 .1 .0)) (i .3) (rw (c .before .before .p .given .1) at (c .before .before .before .before .before .before .before .before .leaf-at .ensures .1)) (i .2) (memory (c .before .before .before .before .before .before .before .before .before .before .before .before .before .before .args .words .now) (c .before .before .before .before .before .before .before .before .before .before .before .before .before .before .args .bytes .now)) (c .if1 .taken))
+
+read-primary-add-read-conditional : (t : ℕ) → read-primary-lts.Need-add-read-conditional (read-primary-claims t) (read-primary-at t) read-primary.Post
+read-primary-add-read-conditional t c = omega (arith, c .if1 .left)
+
+read-primary-read-conditional-requires : (t : ℕ) → read-primary-lts.Need-read-conditional-requires (read-primary-claims t) (read-primary-at t) read-primary.Post
+read-primary-read-conditional-requires t c κs = let i = (rw (c .before .before .before .before .p .given .1) at (c .before .before .before .before .before .before .before .before .before .before .leaf-at .ensures .0)) in let R = c .before .before .before .before .before .before .before .before .before .before .before .before .before .before .before .before .pre .1 in let l1 : length (c .before .before .before .before .before .before .before .before .before .before .leaf-at .last .1 .1 .1 .1 .1 .0) ≡ length (c .before .before .before .before .before .before .before .before .before .before .before .before .before .before .before .before .args .words .now) = c .before .before .before .before .before .before .before .before .before .before .leaf-at .kept .1 .1 .1 .1 .1 .0 in let l2 : length (c .before .before .before .before .before .before .before .before .before .before .leaf-at .last .1 .1 .1 .1 .1 .1 .0) ≡ length (c .before .before .before .before .before .before .before .before .before .before .before .before .before .before .before .before .args .bytes .now) = c .before .before .before .before .before .before .before .before .before .before .leaf-at .kept .1 .1 .1 .1 .1 .1 .0 in omega (arith, c .before .before .before .before .before .before .before .before .before .before .before .before .before .before .before .before .pre .0)
+
+read-primary-symbol-at-requires : (t : ℕ) → read-primary-lts.Need-symbol-at-requires (read-primary-claims t) (read-primary-at t) read-primary.Post
+read-primary-symbol-at-requires t c κs = (rw (c .before .r .given .1) at (c .before .before .before .before .before .before .before .read-conditional .ensures .0)) .high
+
+read-primary-returns-2 : (t : ℕ) → read-primary-lts.Need-returns-2 (read-primary-claims t) (read-primary-at t) read-primary.Post
+read-primary-returns-2 t c = (rw (c .before .q .given .1) at (c .before .before .before .before .before .before .before .leaf-at .ensures .0), primary-leaf (c .before .before .before .before .before .before .before .before .before .before .before .before .before .args .text .now) (c .before .before .before .before .before .before .before .before .before .before .before .before .before .args .at) (c .before .before .before .before .before .before .before .before .before .before .before .before .before .args .depth) (mark (c .before .before .before .before .before .before .before .before .before .before .before .before .before .args .n) (c .before .before .before .before .before .before .before .before .before .before .before .before .before .args .k)) (c .before .before .before .before .before .before .before .before .before .before .before .before .before .args .begun) (memory (c .before .before .before .before .before .before .before .before .before .before .before .before .before .args .words .now) (c .before .before .before .before .before .before .before .before .before .before .before .before .before .args .bytes .now)) _ _ _ _ (rw (c .before .q .given .1) at (c .before .before .before .before .before .before .before .leaf-at .ensures .1)))
+
+read-primary-returns-3 : (t : ℕ) → read-primary-lts.Need-returns-3 (read-primary-claims t) (read-primary-at t) read-primary.Post
+read-primary-returns-3 t c = (tt, primary-no (c .before .before .before .before .before .before .before .before .before .before .before .before .before .args .text .now) (c .before .before .before .before .before .before .before .before .before .before .before .before .before .args .at) (c .before .before .before .before .before .before .before .before .before .before .before .before .before .args .depth) (mark (c .before .before .before .before .before .before .before .before .before .before .before .before .before .args .n) (c .before .before .before .before .before .before .before .before .before .before .before .before .before .args .k)) (c .before .before .before .before .before .before .before .before .before .before .before .before .before .args .begun) (memory (c .before .before .before .before .before .before .before .before .before .before .before .before .before .args .words .now) (c .before .before .before .before .before .before .before .before .before .before .before .before .before .args .bytes .now)) (memory (c .before .before .before .before .before .before .before .before .before .before .before .before .before .args .words .now) (c .before .before .before .before .before .before .before .before .before .before .before .before .before .args .bytes .now)) (memory (c .before .before .before .before .before .before .before .before .before .before .before .before .before .args .words .now) (c .before .before .before .before .before .before .before .before .before .before .before .before .before .args .bytes .now)) _ _ (rw (c .before .y .given .1) at (c .before .before .before .before .before .before .before .leaf-at .ensures .1)))
+
+read-primary-returns-4 : (t : ℕ) → read-primary-lts.Need-returns-4 (read-primary-claims t) (read-primary-at t) read-primary.Post
+read-primary-returns-4 t c = let i = (rw (c .before .before .before .before .before .before .before .before .before .before .before .before .p .given .1) at (c .before .before .before .before .before .before .before .before .before .before .before .before .before .before .before .before .before .before .leaf-at .ensures .0)) in (tt, primary-refused (c .before .before .before .before .before .before .before .before .before .before .before .before .before .before .before .before .before .before .before .before .before .before .before .before .args .text .now) (c .before .before .before .before .before .before .before .before .before .before .before .before .before .before .before .before .before .before .before .before .before .before .before .before .args .at) (c .before .before .before .before .before .before .before .before .before .before .before .before .before .before .before .before .before .before .before .before .before .before .before .before .args .depth) (mark (c .before .before .before .before .before .before .before .before .before .before .before .before .before .before .before .before .before .before .before .before .before .before .before .before .args .n) (c .before .before .before .before .before .before .before .before .before .before .before .before .before .before .before .before .before .before .before .before .before .before .before .before .args .k)) (c .before .before .before .before .before .before .before .before .before .before .before .before .before .before .before .before .before .before .before .before .before .before .before .before .args .begun) (memory (c .before .before .before .before .before .before .before .before .before .before .before .before .before .before .before .before .before .before .before .before .before .before .before .before .args .words .now) (c .before .before .before .before .before .before .before .before .before .before .before .before .before .before .before .before .before .before .before .before .before .before .before .before .args .bytes .now)) _ _ (memory (c .before .before .before .before .before .before .before .before .before .before .before .before .before .before .before .before .before .before .leaf-at .last .1 .1 .1 .1 .1 .0) (c .before .before .before .before .before .before .before .before .before .before .before .before .before .before .before .before .before .before .leaf-at .last .1 .1 .1 .1 .1 .1 .0)) (i .3) (rw (c .before .before .before .before .before .before .before .before .before .before .before .before .p .given .1) at (c .before .before .before .before .before .before .before .before .before .before .before .before .before .before .before .before .before .before .leaf-at .ensures .1)) (i .2) (c .before .before .before .before .before .before .before .before .before .before .if1 .left) (memory (c .before .before .before .before .before .before .before .before .before .before .before .before .before .before .before .before .before .before .before .before .before .before .before .before .args .words .now) (c .before .before .before .before .before .before .before .before .before .before .before .before .before .before .before .before .before .before .before .before .before .before .before .before .args .bytes .now)) (memory (c .before .before .before .before .before .before .before .before .before .before .before .before .before .before .before .before .before .before .before .before .before .before .before .before .args .words .now) (c .before .before .before .before .before .before .before .before .before .before .before .before .before .before .before .before .before .before .before .before .before .before .before .before .args .bytes .now)) _ _ (rw (c .before .y2 .given .1) at (c .before .before .before .before .before .before .before .read-conditional .ensures .1)))
+
+read-primary-returns-5 : (t : ℕ) → read-primary-lts.Need-returns-5 (read-primary-claims t) (read-primary-at t) read-primary.Post
+read-primary-returns-5 t c = let i = (rw (c .before .before .before .before .before .before .before .before .before .before .before .before .before .before .before .before .p .given .1) at (c .before .before .before .before .before .before .before .before .before .before .before .before .before .before .before .before .before .before .before .before .before .before .leaf-at .ensures .0)) in (tt, primary-unclosed (c .before .before .before .before .before .before .before .before .before .before .before .before .before .before .before .before .before .before .before .before .before .before .before .before .before .before .before .before .args .text .now) (c .before .before .before .before .before .before .before .before .before .before .before .before .before .before .before .before .before .before .before .before .before .before .before .before .before .before .before .before .args .at) (c .before .before .before .before .before .before .before .before .before .before .before .before .before .before .before .before .before .before .before .before .before .before .before .before .before .before .before .before .args .depth) (mark (c .before .before .before .before .before .before .before .before .before .before .before .before .before .before .before .before .before .before .before .before .before .before .before .before .before .before .before .before .args .n) (c .before .before .before .before .before .before .before .before .before .before .before .before .before .before .before .before .before .before .before .before .before .before .before .before .before .before .before .before .args .k)) (c .before .before .before .before .before .before .before .before .before .before .before .before .before .before .before .before .before .before .before .before .before .before .before .before .before .before .before .before .args .begun) (memory (c .before .before .before .before .before .before .before .before .before .before .before .before .before .before .before .before .before .before .before .before .before .before .before .before .before .before .before .before .args .words .now) (c .before .before .before .before .before .before .before .before .before .before .before .before .before .before .before .before .before .before .before .before .before .before .before .before .before .before .before .before .args .bytes .now)) _ _ (memory (c .before .before .before .before .before .before .before .before .before .before .before .before .before .before .before .before .before .before .before .before .before .before .leaf-at .last .1 .1 .1 .1 .1 .0) (c .before .before .before .before .before .before .before .before .before .before .before .before .before .before .before .before .before .before .before .before .before .before .leaf-at .last .1 .1 .1 .1 .1 .1 .0)) (i .3) (rw (c .before .before .before .before .before .before .before .before .before .before .before .before .before .before .before .before .p .given .1) at (c .before .before .before .before .before .before .before .before .before .before .before .before .before .before .before .before .before .before .before .before .before .before .leaf-at .ensures .1)) (i .2) (c .before .before .before .before .before .before .before .before .before .before .before .before .before .before .if1 .left) (memory (c .before .before .before .before .before .before .before .before .before .before .before .read-conditional .last .1 .1 .1 .1 .1 .1 .0) (c .before .before .before .before .before .before .before .before .before .before .before .read-conditional .last .1 .1 .1 .1 .1 .1 .1 .0)) _ (mark (c .before .before .before .before .before .r .given .0 .1 .0) (c .before .before .before .before .before .r .given .0 .1 .1 .0)) (rw (c .before .before .before .before .before .r .given .1) at (c .before .before .before .before .before .before .before .before .before .before .before .read-conditional .ensures .1)) (memory (c .before .before .before .before .before .before .before .before .before .before .before .before .before .before .before .before .before .before .before .before .before .before .before .before .before .before .before .before .args .words .now) (c .before .before .before .before .before .before .before .before .before .before .before .before .before .before .before .before .before .before .before .before .before .before .before .before .before .before .before .before .args .bytes .now)) _ _ (rw (c .before .y3 .given .1) at (c .before .before .before .symbol-at .ensures)))
+
+read-primary-returns-6 : (t : ℕ) → read-primary-lts.Need-returns-6 (read-primary-claims t) (read-primary-at t) read-primary.Post
+read-primary-returns-6 t c = let i = (rw (c .before .before .before .before .before .before .before .before .before .before .before .before .before .before .before .before .p .given .1) at (c .before .before .before .before .before .before .before .before .before .before .before .before .before .before .before .before .before .before .before .before .before .before .leaf-at .ensures .0)) in let j = (rw (c .before .before .before .before .before .r .given .1) at (c .before .before .before .before .before .before .before .before .before .before .before .read-conditional .ensures .0)) in let d = (rw (c .before .t .given .1) at (c .before .before .before .symbol-at .ensures)) in let f2 = fewer-left (c .before .before .before .before .before .before .before .before .before .before .before .before .before .before .before .before .before .before .before .before .before .before .before .before .before .before .before .before .args .text .now) _ _ _ (symbol CloseParenthesis) d in (record { low = omega arith; high = d .high; grows = j .grows; some = j .some; fits = j .fits; short = omega arith; fewer = omega arith }, primary-done (c .before .before .before .before .before .before .before .before .before .before .before .before .before .before .before .before .before .before .before .before .before .before .before .before .before .before .before .before .args .text .now) (c .before .before .before .before .before .before .before .before .before .before .before .before .before .before .before .before .before .before .before .before .before .before .before .before .before .before .before .before .args .at) (c .before .before .before .before .before .before .before .before .before .before .before .before .before .before .before .before .before .before .before .before .before .before .before .before .before .before .before .before .args .depth) (mark (c .before .before .before .before .before .before .before .before .before .before .before .before .before .before .before .before .before .before .before .before .before .before .before .before .before .before .before .before .args .n) (c .before .before .before .before .before .before .before .before .before .before .before .before .before .before .before .before .before .before .before .before .before .before .before .before .before .before .before .before .args .k)) (c .before .before .before .before .before .before .before .before .before .before .before .before .before .before .before .before .before .before .before .before .before .before .before .before .before .before .before .before .args .begun) (memory (c .before .before .before .before .before .before .before .before .before .before .before .before .before .before .before .before .before .before .before .before .before .before .before .before .before .before .before .before .args .words .now) (c .before .before .before .before .before .before .before .before .before .before .before .before .before .before .before .before .before .before .before .before .before .before .before .before .before .before .before .before .args .bytes .now)) _ _ (memory (c .before .before .before .before .before .before .before .before .before .before .before .before .before .before .before .before .before .before .before .before .before .before .leaf-at .last .1 .1 .1 .1 .1 .0) (c .before .before .before .before .before .before .before .before .before .before .before .before .before .before .before .before .before .before .before .before .before .before .leaf-at .last .1 .1 .1 .1 .1 .1 .0)) (i .3) (rw (c .before .before .before .before .before .before .before .before .before .before .before .before .before .before .before .before .p .given .1) at (c .before .before .before .before .before .before .before .before .before .before .before .before .before .before .before .before .before .before .before .before .before .before .leaf-at .ensures .1)) (i .2) (c .before .before .before .before .before .before .before .before .before .before .before .before .before .before .if1 .left) (memory (c .before .before .before .before .before .before .before .before .before .before .before .read-conditional .last .1 .1 .1 .1 .1 .1 .0) (c .before .before .before .before .before .before .before .before .before .before .before .read-conditional .last .1 .1 .1 .1 .1 .1 .1 .0)) _ (mark (c .before .before .before .before .before .r .given .0 .1 .0) (c .before .before .before .before .before .r .given .0 .1 .1 .0)) (rw (c .before .before .before .before .before .r .given .1) at (c .before .before .before .before .before .before .before .before .before .before .before .read-conditional .ensures .1)) _ _ d)
+
+read-rest-binary-at-requires : (t : ℕ) → read-rest-lts.Need-binary-at-requires (read-rest-claims t) (read-rest-at t) read-rest.Post
+read-rest-binary-at-requires t c κs = c .before .before .before .pre .1 .1 .1 .place
+
+read-rest-add-if1 : (t : ℕ) → read-rest-lts.Need-add-if1 (read-rest-claims t) (read-rest-at t) read-rest.Post
+read-rest-add-if1 t c = omega (arith, c .before .before .before .before .before .before .before .pre .1 .1 .1 .fits)
+
+read-rest-returns : (t : ℕ) → read-rest-lts.Need-returns (read-rest-claims t) (read-rest-at t) read-rest.Post
+read-rest-returns t c = let g = (rw (c .before .before .j .given .1) at (c .before .before .before .before .binary-at .ensures)) in (tt, rest-full (c .before .before .before .before .before .before .before .before .args .text .now) (c .before .before .before .before .before .before .before .before .args .at) (c .before .before .before .before .before .before .before .before .args .depth) (mark (c .before .before .before .before .before .before .before .before .args .n) (c .before .before .before .before .before .before .before .before .args .k)) (c .before .before .before .before .before .before .before .before .args .begun) (memory (c .before .before .before .before .before .before .before .before .args .words .now) (c .before .before .before .before .before .before .before .before .args .bytes .now)) (c .before .before .before .before .before .before .before .before .args .level) _ _ _ (g .0) (g .1) (memory (c .before .before .before .before .before .before .before .before .args .words .now) (c .before .before .before .before .before .before .before .before .args .bytes .now)) (c .if1 .taken))
+
+read-rest-add-read-binary : (t : ℕ) → read-rest-lts.Need-add-read-binary (read-rest-claims t) (read-rest-at t) read-rest.Post
+read-rest-add-read-binary t c = omega (arith, c .before .before .before .before .before .before .before .before .pre .1 .0)
+
+read-rest-add-read-binary-2 : (t : ℕ) → read-rest-lts.Need-add-read-binary-2 (read-rest-claims t) (read-rest-at t) read-rest.Post
+read-rest-add-read-binary-2 t c = omega (arith, c .if1 .left)
+
+read-rest-read-binary-requires : (t : ℕ) → read-rest-lts.Need-read-binary-requires (read-rest-claims t) (read-rest-at t) read-rest.Post
+read-rest-read-binary-requires t c κs = let g = (rw (c .before .before .before .before .j .given .1) at (c .before .before .before .before .before .before .binary-at .ensures)) in let R = c .before .before .before .before .before .before .before .before .before .before .pre .1 .1 .1 in omega (arith, c .before .before .before .before .before .before .before .before .before .before .pre .0, c .before .before .before .before .before .before .before .before .before .before .pre .1 .0, c .before .before .if1 .left)
+
+read-rest-sub-store-node : (t : ℕ) → read-rest-lts.Need-sub-store-node (read-rest-claims t) (read-rest-at t) read-rest.Post
+read-rest-sub-store-node t c = c .before .before .before .before .before .before .before .before .before .before .before .before .before .before .before .before .before .before .before .before .pre .1 .1 .0
+
+read-rest-sub-store-node-2 : (t : ℕ) → read-rest-lts.Need-sub-store-node-2 (read-rest-claims t) (read-rest-at t) read-rest.Post
+read-rest-sub-store-node-2 t c = (rw (c .before .before .before .r .given .1) at (c .before .before .before .before .before .before .before .before .before .read-binary .ensures .0)) .some
+
+read-rest-store-node-requires : (t : ℕ) → read-rest-lts.Need-store-node-requires (read-rest-claims t) (read-rest-at t) read-rest.Post
+read-rest-store-node-requires t c κs = let i = (rw (c .before .before .before .r .given .1) at (c .before .before .before .before .before .before .before .before .before .read-binary .ensures .0)) in let R = c .before .before .before .before .before .before .before .before .before .before .before .before .before .before .before .before .before .before .before .before .pre .1 .1 .1 in let l1 : length (c .before .before .before .before .before .before .before .before .before .read-binary .last .1 .1 .1 .1 .1 .1 .1 .0) ≡ length (c .before .before .before .before .before .before .before .before .before .before .before .before .before .before .before .before .before .before .before .before .args .words .now) = c .before .before .before .before .before .before .before .before .before .read-binary .kept .1 .1 .1 .1 .1 .1 .1 .0 in let l2 : length (c .before .before .before .before .before .before .before .before .before .read-binary .last .1 .1 .1 .1 .1 .1 .1 .1 .0) ≡ length (c .before .before .before .before .before .before .before .before .before .before .before .before .before .before .before .before .before .before .before .before .args .bytes .now) = c .before .before .before .before .before .before .before .before .before .read-binary .kept .1 .1 .1 .1 .1 .1 .1 .1 .0 in omega arith
+
+read-rest-add-read-rest : (t : ℕ) → read-rest-lts.Need-add-read-rest (read-rest-claims t) (read-rest-at t) read-rest.Post
+read-rest-add-read-rest t c = let i = (rw (c .before .before .before .before .before .before .r .given .1) at (c .before .before .before .before .before .before .before .before .before .before .before .before .read-binary .ensures .0)) in omega arith
+
+read-rest-read-rest-requires : (t : ℕ) → read-rest-lts.Need-read-rest-requires (read-rest-claims t) (read-rest-at t) read-rest.Post
+read-rest-read-rest-requires t c κs = let g = (rw (c .before .before .before .before .before .before .before .before .before .before .before .before .before .before .before .before .before .before .before .j .given .1) at (c .before .before .before .before .before .before .before .before .before .before .before .before .before .before .before .before .before .before .before .before .before .binary-at .ensures)) in let i = (rw (c .before .before .before .before .before .before .before .before .r .given .1) at (c .before .before .before .before .before .before .before .before .before .before .before .before .before .before .read-binary .ensures .0)) in let R = c .before .before .before .before .before .before .before .before .before .before .before .before .before .before .before .before .before .before .before .before .before .before .before .before .before .pre .1 .1 .1 in let l1 : length (c .before .before .before .before .before .before .before .before .before .before .before .before .before .before .read-binary .last .1 .1 .1 .1 .1 .1 .1 .0) ≡ length (c .before .before .before .before .before .before .before .before .before .before .before .before .before .before .before .before .before .before .before .before .before .before .before .before .before .args .words .now) = c .before .before .before .before .before .before .before .before .before .before .before .before .before .before .read-binary .kept .1 .1 .1 .1 .1 .1 .1 .0 in let l2 : length (c .before .before .before .before .before .before .before .before .before .before .before .before .before .before .read-binary .last .1 .1 .1 .1 .1 .1 .1 .1 .0) ≡ length (c .before .before .before .before .before .before .before .before .before .before .before .before .before .before .before .before .before .before .before .before .before .before .before .before .before .args .bytes .now) = c .before .before .before .before .before .before .before .before .before .before .before .before .before .before .read-binary .kept .1 .1 .1 .1 .1 .1 .1 .1 .0 in let l3 : length (c .before .before .before .before .store-node .last .0) ≡ length (c .before .before .before .before .before .before .before .before .before .before .before .before .before .before .read-binary .last .1 .1 .1 .1 .1 .1 .1 .0) = c .before .before .before .before .store-node .kept .0 in omega (arith, c .before .before .before .before .before .before .before .before .before .before .before .before .before .before .before .before .before .before .before .before .before .before .before .before .before .pre .0, c .before .before .before .before .before .before .before .before .before .before .before .before .before .before .before .before .before .before .before .before .before .before .before .before .before .pre .1 .0, c .before .before .before .before .before .before .before .before .before .before .before .before .before .before .before .before .before .if1 .left, g .1 .low, g .1 .wide)
+
+read-rest-returns-2 : (t : ℕ) → read-rest-lts.Need-returns-2 (read-rest-claims t) (read-rest-at t) read-rest.Post
+read-rest-returns-2 t c = let R = c .before .before .before .before .before .before .pre .1 .1 .1 in (record { low = omega arith; high = R .place; grows = omega arith; some = c .before .before .before .before .before .before .pre .1 .1 .0; fits = R .fits; short = R .short; fewer = omega arith }, rest-stop (c .before .before .before .before .before .before .args .text .now) (c .before .before .before .before .before .before .args .at) (c .before .before .before .before .before .before .args .depth) (mark (c .before .before .before .before .before .before .args .n) (c .before .before .before .before .before .before .args .k)) (c .before .before .before .before .before .before .args .begun) (memory (c .before .before .before .before .before .before .args .words .now) (c .before .before .before .before .before .before .args .bytes .now)) (c .before .before .before .before .before .before .args .level) (rw (c .enum-told .given .1) at (c .before .before .binary-at .ensures)))
+
+read-rest-returns-3 : (t : ℕ) → read-rest-lts.Need-returns-3 (read-rest-claims t) (read-rest-at t) read-rest.Post
+read-rest-returns-3 t c = let g = (rw (c .before .before .before .before .before .before .before .before .before .before .before .before .j .given .1) at (c .before .before .before .before .before .before .before .before .before .before .before .before .before .before .binary-at .ensures)) in (tt, rest-refused (c .before .before .before .before .before .before .before .before .before .before .before .before .before .before .before .before .before .before .args .text .now) (c .before .before .before .before .before .before .before .before .before .before .before .before .before .before .before .before .before .before .args .at) (c .before .before .before .before .before .before .before .before .before .before .before .before .before .before .before .before .before .before .args .depth) (mark (c .before .before .before .before .before .before .before .before .before .before .before .before .before .before .before .before .before .before .args .n) (c .before .before .before .before .before .before .before .before .before .before .before .before .before .before .before .before .before .before .args .k)) (c .before .before .before .before .before .before .before .before .before .before .before .before .before .before .before .before .before .before .args .begun) (memory (c .before .before .before .before .before .before .before .before .before .before .before .before .before .before .before .before .before .before .args .words .now) (c .before .before .before .before .before .before .before .before .before .before .before .before .before .before .before .before .before .before .args .bytes .now)) (c .before .before .before .before .before .before .before .before .before .before .before .before .before .before .before .before .before .before .args .level) _ _ _ (g .0) (g .1) (c .before .before .before .before .before .before .before .before .before .before .if1 .left) (memory (c .before .before .before .before .before .before .before .before .before .before .before .before .before .before .before .before .before .before .args .words .now) (c .before .before .before .before .before .before .before .before .before .before .before .before .before .before .before .before .before .before .args .bytes .now)) (memory (c .before .before .before .before .before .before .before .before .before .before .before .before .before .before .before .before .before .before .args .words .now) (c .before .before .before .before .before .before .before .before .before .before .before .before .before .before .before .before .before .before .args .bytes .now)) _ _ (rw (c .before .y .given .1) at (c .before .before .before .before .before .before .before .read-binary .ensures .1)))
+
+read-rest-returns-4 : (t : ℕ) → read-rest-lts.Need-returns-4 (read-rest-claims t) (read-rest-at t) read-rest.Post
+read-rest-returns-4 t c = let g = (rw (c .before .before .before .before .before .before .before .before .before .before .before .before .before .before .before .before .before .before .before .before .before .before .before .before .j .given .1) at (c .before .before .before .before .before .before .before .before .before .before .before .before .before .before .before .before .before .before .before .before .before .before .before .before .before .before .binary-at .ensures)) in let i = (rw (c .before .before .before .before .before .before .before .before .before .before .before .before .before .r .given .1) at (c .before .before .before .before .before .before .before .before .before .before .before .before .before .before .before .before .before .before .before .read-binary .ensures .0)) in let f1 = fewer-left (c .before .before .before .before .before .before .before .before .before .before .before .before .before .before .before .before .before .before .before .before .before .before .before .before .before .before .before .before .before .before .args .text .now) _ _ _ (operator (c .before .before .before .before .before .before .before .before .before .before .before .before .before .before .before .before .before .before .before .before .before .before .before .before .j .given .0 .0)) (g .1) in (within-from (c .before .before .before .before .before .before .before .before .before .before .before .before .before .before .before .before .before .before .before .before .before .before .before .before .before .before .before .before .before .before .args .text .now) (c .before .before .before .before .before .before .before .before .before .before .before .before .before .before .before .before .before .before .before .before .before .before .before .before .before .before .before .before .before .before .args .at) _ 0 (mark (c .before .before .before .before .before .before .before .before .before .before .before .before .before .before .before .before .before .before .before .before .before .before .before .before .before .before .before .before .before .before .args .n) (c .before .before .before .before .before .before .before .before .before .before .before .before .before .before .before .before .before .before .before .before .before .before .before .before .before .before .before .before .before .before .args .k)) (more (mark (c .before .before .before .before .before .before .before .before .before .before .before .before .before .r .given .0 .1 .0) (c .before .before .before .before .before .before .before .before .before .before .before .before .before .r .given .0 .1 .1 .0))) (c .before .before .before .before .before .before .before .before .before .before .before .before .before .before .before .before .before .before .before .before .before .before .before .before .before .before .before .before .before .before .args .begun) (c .before .before .before .before .read-rest .result) (omega (arith, g .1 .low, g .1 .wide)) (omega arith) (omega arith) (c .before .before .before .before .read-rest .ensures .0), rest-more (c .before .before .before .before .before .before .before .before .before .before .before .before .before .before .before .before .before .before .before .before .before .before .before .before .before .before .before .before .before .before .args .text .now) (c .before .before .before .before .before .before .before .before .before .before .before .before .before .before .before .before .before .before .before .before .before .before .before .before .before .before .before .before .before .before .args .at) (c .before .before .before .before .before .before .before .before .before .before .before .before .before .before .before .before .before .before .before .before .before .before .before .before .before .before .before .before .before .before .args .depth) (mark (c .before .before .before .before .before .before .before .before .before .before .before .before .before .before .before .before .before .before .before .before .before .before .before .before .before .before .before .before .before .before .args .n) (c .before .before .before .before .before .before .before .before .before .before .before .before .before .before .before .before .before .before .before .before .before .before .before .before .before .before .before .before .before .before .args .k)) (c .before .before .before .before .before .before .before .before .before .before .before .before .before .before .before .before .before .before .before .before .before .before .before .before .before .before .before .before .before .before .args .begun) (memory (c .before .before .before .before .before .before .before .before .before .before .before .before .before .before .before .before .before .before .before .before .before .before .before .before .before .before .before .before .before .before .args .words .now) (c .before .before .before .before .before .before .before .before .before .before .before .before .before .before .before .before .before .before .before .before .before .before .before .before .before .before .before .before .before .before .args .bytes .now)) (c .before .before .before .before .before .before .before .before .before .before .before .before .before .before .before .before .before .before .before .before .before .before .before .before .before .before .before .before .before .before .args .level) (c .before .before .before .before .before .before .before .before .before .before .before .before .before .before .before .before .before .before .before .before .before .before .before .before .j .given .0 .0) _ _ (g .0) (g .1) (c .before .before .before .before .before .before .before .before .before .before .before .before .before .before .before .before .before .before .before .before .before .before .if1 .left) (memory (c .before .before .before .before .before .before .before .before .before .before .before .before .before .before .before .before .before .before .before .read-binary .last .1 .1 .1 .1 .1 .1 .1 .0) (c .before .before .before .before .before .before .before .before .before .before .before .before .before .before .before .before .before .before .before .read-binary .last .1 .1 .1 .1 .1 .1 .1 .1 .0)) _ _ _ (mark (c .before .before .before .before .before .before .before .before .before .before .before .before .before .r .given .0 .1 .0) (c .before .before .before .before .before .before .before .before .before .before .before .before .before .r .given .0 .1 .1 .0)) (c .before .before .before .before .read-rest .result) (rw (c .before .before .before .before .before .before .before .before .before .before .before .before .before .r .given .1) at (c .before .before .before .before .before .before .before .before .before .before .before .before .before .before .before .before .before .before .before .read-binary .ensures .1)) (i .fewer) (rw (c .before .before .before .before .before .before .before .before .before .before .before .binary-kind .ensures) at (c .before .before .before .before .before .before .before .before .before .store-node .ensures)) (c .before .before .before .before .read-rest .ensures .1))
+
+read-unary-unary-at-requires : (t : ℕ) → read-unary-lts.Need-unary-at-requires (read-unary-claims t) (read-unary-at t) read-unary.Post
+read-unary-unary-at-requires t c κs = c .before .before .before .pre .1 .place
+
+read-unary-read-primary-requires : (t : ℕ) → read-unary-lts.Need-read-primary-requires (read-unary-claims t) (read-unary-at t) read-unary.Post
+read-unary-read-primary-requires t c κs = omega (arith, c .before .before .before .before .before .before .before .before .pre .0, c .before .before .before .before .before .before .before .before .pre .1)
+
+read-unary-returns : (t : ℕ) → read-unary-lts.Need-returns (read-unary-claims t) (read-unary-at t) read-unary.Post
+read-unary-returns t c = (tt, unary-deep (c .before .before .before .before .before .before .before .before .args .text .now) (c .before .before .before .before .before .before .before .before .args .at) (c .before .before .before .before .before .before .before .before .args .depth) (mark (c .before .before .before .before .before .before .before .before .args .n) (c .before .before .before .before .before .before .before .before .args .k)) (c .before .before .before .before .before .before .before .before .args .begun) (memory (c .before .before .before .before .before .before .before .before .args .words .now) (c .before .before .before .before .before .before .before .before .args .bytes .now)) (c .before .before .o .given .0 .0) _ _ (rw (c .before .before .o .given .1) at (c .before .before .before .before .unary-at .ensures)) (memory (c .before .before .before .before .before .before .before .before .args .words .now) (c .before .before .before .before .before .before .before .before .args .bytes .now)) (c .if1 .taken))
+
+read-unary-add-if2 : (t : ℕ) → read-unary-lts.Need-add-if2 (read-unary-claims t) (read-unary-at t) read-unary.Post
+read-unary-add-if2 t c = omega (arith, c .before .before .before .before .before .before .before .before .pre .1 .fits)
+
+read-unary-returns-2 : (t : ℕ) → read-unary-lts.Need-returns-2 (read-unary-claims t) (read-unary-at t) read-unary.Post
+read-unary-returns-2 t c = (tt, unary-full (c .before .before .before .before .before .before .before .before .before .args .text .now) (c .before .before .before .before .before .before .before .before .before .args .at) (c .before .before .before .before .before .before .before .before .before .args .depth) (mark (c .before .before .before .before .before .before .before .before .before .args .n) (c .before .before .before .before .before .before .before .before .before .args .k)) (c .before .before .before .before .before .before .before .before .before .args .begun) (memory (c .before .before .before .before .before .before .before .before .before .args .words .now) (c .before .before .before .before .before .before .before .before .before .args .bytes .now)) (c .before .before .before .o .given .0 .0) _ _ (rw (c .before .before .before .o .given .1) at (c .before .before .before .before .before .unary-at .ensures)) (memory (c .before .before .before .before .before .before .before .before .before .args .words .now) (c .before .before .before .before .before .before .before .before .before .args .bytes .now)) (c .before .if1 .left) (c .if2 .taken))
+
+read-unary-add-read-unary : (t : ℕ) → read-unary-lts.Need-add-read-unary (read-unary-claims t) (read-unary-at t) read-unary.Post
+read-unary-add-read-unary t c = omega (arith, c .before .if1 .left)
+
+read-unary-add-read-unary-2 : (t : ℕ) → read-unary-lts.Need-add-read-unary-2 (read-unary-claims t) (read-unary-at t) read-unary.Post
+read-unary-add-read-unary-2 t c = omega (arith, c .if2 .left)
+
+read-unary-read-unary-requires : (t : ℕ) → read-unary-lts.Need-read-unary-requires (read-unary-claims t) (read-unary-at t) read-unary.Post
+read-unary-read-unary-requires t c κs = let g = (rw (c .before .before .before .before .before .o .given .1) at (c .before .before .before .before .before .before .before .unary-at .ensures)) in let R = c .before .before .before .before .before .before .before .before .before .before .before .pre .1 in omega (arith, c .before .before .before .before .before .before .before .before .before .before .before .pre .0, c .before .before .if2 .left)
+
+read-unary-sub-store-node : (t : ℕ) → read-unary-lts.Need-sub-store-node (read-unary-claims t) (read-unary-at t) read-unary.Post
+read-unary-sub-store-node t c = (rw (c .before .before .before .r .given .1) at (c .before .before .before .before .before .before .before .before .before .read-unary .ensures .0)) .some
+
+read-unary-store-node-requires : (t : ℕ) → read-unary-lts.Need-store-node-requires (read-unary-claims t) (read-unary-at t) read-unary.Post
+read-unary-store-node-requires t c κs = let i = (rw (c .before .before .before .r .given .1) at (c .before .before .before .before .before .before .before .before .before .read-unary .ensures .0)) in let R = c .before .before .before .before .before .before .before .before .before .before .before .before .before .before .before .before .before .before .before .before .before .pre .1 in let l1 : length (c .before .before .before .before .before .before .before .before .before .read-unary .last .1 .1 .1 .1 .1 .1 .0) ≡ length (c .before .before .before .before .before .before .before .before .before .before .before .before .before .before .before .before .before .before .before .before .before .args .words .now) = c .before .before .before .before .before .before .before .before .before .read-unary .kept .1 .1 .1 .1 .1 .1 .0 in let l2 : length (c .before .before .before .before .before .before .before .before .before .read-unary .last .1 .1 .1 .1 .1 .1 .1 .0) ≡ length (c .before .before .before .before .before .before .before .before .before .before .before .before .before .before .before .before .before .before .before .before .before .args .bytes .now) = c .before .before .before .before .before .before .before .before .before .read-unary .kept .1 .1 .1 .1 .1 .1 .1 .0 in omega arith
+
+read-unary-add-t36 : (t : ℕ) → read-unary-lts.Need-add-t36 (read-unary-claims t) (read-unary-at t) read-unary.Post
+read-unary-add-t36 t c = let i = (rw (c .before .before .before .before .before .before .r .given .1) at (c .before .before .before .before .before .before .before .before .before .before .before .before .read-unary .ensures .0)) in omega arith
+
+read-unary-returns-3 : (t : ℕ) → read-unary-lts.Need-returns-3 (read-unary-claims t) (read-unary-at t) read-unary.Post
+read-unary-returns-3 t c = (c .before .before .before .before .read-primary .ensures .0, unary-primary (c .before .before .before .before .before .before .before .before .before .before .before .before .before .args .text .now) (c .before .before .before .before .before .before .before .before .before .before .before .before .before .args .at) (c .before .before .before .before .before .before .before .before .before .before .before .before .before .args .depth) (mark (c .before .before .before .before .before .before .before .before .before .before .before .before .before .args .n) (c .before .before .before .before .before .before .before .before .before .before .before .before .before .args .k)) (c .before .before .before .before .before .before .before .before .before .before .before .before .before .args .begun) (memory (c .before .before .before .before .before .before .before .before .before .before .before .before .before .args .words .now) (c .before .before .before .before .before .before .before .before .before .before .before .before .before .args .bytes .now)) _ (c .before .before .before .before .read-primary .result) (rw (c .before .before .before .before .before .before .before .enum-told .given .1) at (c .before .before .before .before .before .before .before .before .before .unary-at .ensures)) (c .before .before .before .before .read-primary .ensures .1))
+
+read-unary-returns-4 : (t : ℕ) → read-unary-lts.Need-returns-4 (read-unary-claims t) (read-unary-at t) read-unary.Post
+read-unary-returns-4 t c = (tt, unary-refused (c .before .before .before .before .before .before .before .before .before .before .before .before .before .before .before .before .before .before .before .args .text .now) (c .before .before .before .before .before .before .before .before .before .before .before .before .before .before .before .before .before .before .before .args .at) (c .before .before .before .before .before .before .before .before .before .before .before .before .before .before .before .before .before .before .before .args .depth) (mark (c .before .before .before .before .before .before .before .before .before .before .before .before .before .before .before .before .before .before .before .args .n) (c .before .before .before .before .before .before .before .before .before .before .before .before .before .before .before .before .before .before .before .args .k)) (c .before .before .before .before .before .before .before .before .before .before .before .before .before .before .before .before .before .before .before .args .begun) (memory (c .before .before .before .before .before .before .before .before .before .before .before .before .before .before .before .before .before .before .before .args .words .now) (c .before .before .before .before .before .before .before .before .before .before .before .before .before .before .before .before .before .before .before .args .bytes .now)) (c .before .before .before .before .before .before .before .before .before .before .before .before .before .o .given .0 .0) _ _ (rw (c .before .before .before .before .before .before .before .before .before .before .before .before .before .o .given .1) at (c .before .before .before .before .before .before .before .before .before .before .before .before .before .before .before .unary-at .ensures)) (c .before .before .before .before .before .before .before .before .before .before .before .if1 .left) (c .before .before .before .before .before .before .before .before .before .before .if2 .left) (memory (c .before .before .before .before .before .before .before .before .before .before .before .before .before .before .before .before .before .before .before .args .words .now) (c .before .before .before .before .before .before .before .before .before .before .before .before .before .before .before .before .before .before .before .args .bytes .now)) (memory (c .before .before .before .before .before .before .before .before .before .before .before .before .before .before .before .before .before .before .before .args .words .now) (c .before .before .before .before .before .before .before .before .before .before .before .before .before .before .before .before .before .before .before .args .bytes .now)) _ _ (rw (c .before .y .given .1) at (c .before .before .before .before .before .before .before .read-unary .ensures .1)))
+
+read-unary-returns-5 : (t : ℕ) → read-unary-lts.Need-returns-5 (read-unary-claims t) (read-unary-at t) read-unary.Post
+read-unary-returns-5 t c = let g = (rw (c .before .before .before .before .before .before .before .before .before .before .before .before .before .before .before .before .before .before .o .given .1) at (c .before .before .before .before .before .before .before .before .before .before .before .before .before .before .before .before .before .before .before .before .unary-at .ensures)) in let i = (rw (c .before .before .before .before .before .before .r .given .1) at (c .before .before .before .before .before .before .before .before .before .before .before .before .read-unary .ensures .0)) in let f1 = fewer-left (c .before .before .before .before .before .before .before .before .before .before .before .before .before .before .before .before .before .before .before .before .before .before .before .before .args .text .now) _ _ _ (unaryToken (c .before .before .before .before .before .before .before .before .before .before .before .before .before .before .before .before .before .before .o .given .0 .0)) g in (record { low = omega arith; high = i .high; grows = omega arith; some = omega arith; fits = omega arith; short = i .short; fewer = omega arith }, unary-done (c .before .before .before .before .before .before .before .before .before .before .before .before .before .before .before .before .before .before .before .before .before .before .before .before .args .text .now) (c .before .before .before .before .before .before .before .before .before .before .before .before .before .before .before .before .before .before .before .before .before .before .before .before .args .at) (c .before .before .before .before .before .before .before .before .before .before .before .before .before .before .before .before .before .before .before .before .before .before .before .before .args .depth) (mark (c .before .before .before .before .before .before .before .before .before .before .before .before .before .before .before .before .before .before .before .before .before .before .before .before .args .n) (c .before .before .before .before .before .before .before .before .before .before .before .before .before .before .before .before .before .before .before .before .before .before .before .before .args .k)) (c .before .before .before .before .before .before .before .before .before .before .before .before .before .before .before .before .before .before .before .before .before .before .before .before .args .begun) (memory (c .before .before .before .before .before .before .before .before .before .before .before .before .before .before .before .before .before .before .before .before .before .before .before .before .args .words .now) (c .before .before .before .before .before .before .before .before .before .before .before .before .before .before .before .before .before .before .before .before .before .before .before .before .args .bytes .now)) (c .before .before .before .before .before .before .before .before .before .before .before .before .before .before .before .before .before .before .o .given .0 .0) _ _ g (c .before .before .before .before .before .before .before .before .before .before .before .before .before .before .before .before .if1 .left) (c .before .before .before .before .before .before .before .before .before .before .before .before .before .before .before .if2 .left) (memory (c .before .before .before .before .before .before .before .before .before .before .before .before .read-unary .last .1 .1 .1 .1 .1 .1 .0) (c .before .before .before .before .before .before .before .before .before .before .before .before .read-unary .last .1 .1 .1 .1 .1 .1 .1 .0)) _ _ (mark (c .before .before .before .before .before .before .r .given .0 .1 .0) (c .before .before .before .before .before .before .r .given .0 .1 .1 .0)) (rw (c .before .before .before .before .before .before .r .given .1) at (c .before .before .before .before .before .before .before .before .before .before .before .before .read-unary .ensures .1)) (rw (c .before .before .before .before .unary-kind .ensures) at (c .before .before .store-node .ensures)))
+
+pub +read-arms+read-binary+read-conditional+read-primary+read-rest+read-unary-spec :
+    {M : Type 1} → statement M
++read-arms+read-binary+read-conditional+read-primary+read-rest+read-unary-spec =
+    close
+    μ-read-arms
+    μ-read-binary
+    μ-read-conditional
+    μ-read-primary
+    μ-read-rest
+    μ-read-unary
+    (λ t. read-arms-lts.spec (read-arms-claims t)
+    (read-arms-at t)
+    read-arms.Post
+    (read-arms-symbol-at-requires t)
+    (λ c. search needs)
+    (λ c. search needs)
+    (read-arms-returns t)
+    (read-arms-add-if2 t)
+    (read-arms-returns-2 t)
+    (read-arms-add-read-conditional t)
+    (read-arms-add-read-conditional-2 t)
+    (read-arms-read-conditional-requires t)
+    (λ c. search needs)
+    (λ c. search needs)
+    (read-arms-symbol-at-requires-2 t)
+    (λ c. search needs)
+    (λ c. search needs)
+    (read-arms-add-read-conditional-3 t)
+    (read-arms-add-read-conditional-4 t)
+    (read-arms-read-conditional-requires-2 t)
+    (λ c. search needs)
+    (λ c. search needs)
+    (read-arms-sub-store-node t)
+    (read-arms-sub-store-node-2 t)
+    (read-arms-sub-store-node-3 t)
+    (read-arms-store-node-requires t)
+    (read-arms-add-t50 t)
+    (read-arms-returns-3 t)
+    (λ c. search needs)
+    (λ c. search needs)
+    (read-arms-returns-4 t)
+    (λ c. search needs)
+    (λ c. search needs)
+    (read-arms-returns-5 t)
+    (λ c. search needs)
+    (λ c. search needs)
+    (read-arms-returns-6 t)
+    (λ c. search needs)
+    (λ c. search needs)
+    (read-arms-returns-7 t))
+    (λ t. read-binary-lts.spec (read-binary-claims t)
+    (read-binary-at t)
+    read-binary.Post
+    (read-binary-read-unary-requires t)
+    (λ c. search needs)
+    (λ c. search needs)
+    (read-binary-returns t)
+    (read-binary-add-read-binary t)
+    (read-binary-read-binary-requires t)
+    (λ c. search needs)
+    (λ c. search needs)
+    (read-binary-read-rest-requires t)
+    (λ c. search needs)
+    (λ c. search needs)
+    (read-binary-returns-2 t)
+    (λ c. search needs)
+    (λ c. search needs)
+    (read-binary-returns-3 t))
+    (λ t. read-conditional-lts.spec (read-conditional-claims t)
+    (read-conditional-at t)
+    read-conditional.Post
+    (read-conditional-read-binary-requires t)
+    (λ c. search needs)
+    (λ c. search needs)
+    (read-conditional-read-arms-requires t)
+    (λ c. search needs)
+    (λ c. search needs)
+    (read-conditional-returns t)
+    (λ c. search needs)
+    (λ c. search needs)
+    (read-conditional-returns-2 t))
+    (λ t. read-primary-lts.spec (read-primary-claims t)
+    (read-primary-at t)
+    read-primary.Post
+    (read-primary-leaf-at-requires t)
+    (λ c. search needs)
+    (λ c. search needs)
+    (λ c. search needs)
+    (λ c. search needs)
+    (λ c. search needs)
+    (read-primary-returns t)
+    (read-primary-add-read-conditional t)
+    (read-primary-read-conditional-requires t)
+    (λ c. search needs)
+    (λ c. search needs)
+    (read-primary-symbol-at-requires t)
+    (λ c. search needs)
+    (λ c. search needs)
+    (λ c. search needs)
+    (λ c. search needs)
+    (read-primary-returns-2 t)
+    (λ c. search needs)
+    (λ c. search needs)
+    (read-primary-returns-3 t)
+    (λ c. search needs)
+    (λ c. search needs)
+    (read-primary-returns-4 t)
+    (λ c. search needs)
+    (λ c. search needs)
+    (read-primary-returns-5 t)
+    (λ c. search needs)
+    (λ c. search needs)
+    (read-primary-returns-6 t))
+    (λ t. read-rest-lts.spec (read-rest-claims t)
+    (read-rest-at t)
+    read-rest.Post
+    (read-rest-binary-at-requires t)
+    (λ c. search needs)
+    (λ c. search needs)
+    (read-rest-add-if1 t)
+    (read-rest-returns t)
+    (read-rest-add-read-binary t)
+    (read-rest-add-read-binary-2 t)
+    (read-rest-read-binary-requires t)
+    (λ c. search needs)
+    (λ c. search needs)
+    (λ c κs. search needs)
+    (read-rest-sub-store-node t)
+    (read-rest-sub-store-node-2 t)
+    (read-rest-store-node-requires t)
+    (read-rest-add-read-rest t)
+    (read-rest-read-rest-requires t)
+    (read-rest-returns-2 t)
+    (λ c. search needs)
+    (λ c. search needs)
+    (read-rest-returns-3 t)
+    (λ c. search needs)
+    (λ c. search needs)
+    (read-rest-returns-4 t))
+    λ t. read-unary-lts.spec (read-unary-claims t)
+    (read-unary-at t)
+    read-unary.Post
+    (read-unary-unary-at-requires t)
+    (λ c. search needs)
+    (read-unary-read-primary-requires t)
+    (λ c. search needs)
+    (read-unary-returns t)
+    (read-unary-add-if2 t)
+    (read-unary-returns-2 t)
+    (read-unary-add-read-unary t)
+    (read-unary-add-read-unary-2 t)
+    (read-unary-read-unary-requires t)
+    (λ c. search needs)
+    (λ c. search needs)
+    (λ c κs. search needs)
+    (read-unary-sub-store-node t)
+    (read-unary-store-node-requires t)
+    (read-unary-add-t36 t)
+    (λ c. search needs)
+    (λ c. search needs)
+    (read-unary-returns-3 t)
+    (λ c. search needs)
+    (λ c. search needs)
+    (read-unary-returns-4 t)
+    (λ c. search needs)
+    (λ c. search needs)
+    (read-unary-returns-5 t)
