@@ -21,26 +21,13 @@ use Rattle.lookahead.specs.Ask.{NotToken, NotBinary, Misfit, Stands}
 use Rattle.ad.specs.Layout.{unaryKind, binaryKind, node}
 use Rattle.leaves.specs.Marks.{Mark, mark, past, Memory, memory, written, left, Inside, LeafOk}
 use Rattle.leaves.specs.declared.Leaf.the-variants as L
+use Rattle.leaves.proofs.Laws.{fewer-left, misfit-of, token-off}
 use Rattle.expressions.specs.Post.{Agrees, Within, ConditionalOk, BinaryOk, UnaryOk, PrimaryOk, ArmsOk, RestOk}
 use Rattle.expressions.specs.declared.Read.{Read}
 use Rattle.expressions.specs.declared.Read.the-variants.{Done, Refused}
 use Rattle.expressions.proofs.Words.{more, restored, nodes-of, words-binary, past-binary, words-conditional, past-conditional, words-unary, past-unary}
 
 -- ---- the token in front
-
-pub fewer-left : (s : List ℕ) (at p q : ℕ) (t : T.Token) → Stands s at p t q → left s at ≡ left s q + 1
-unfolding count
-fewer-left s at p q t h = ap count (h .stands)
-
-misfit-of : {A : Type 0} (refuse : ℕ → ℕ → A) (k p : ℕ) (u : Tokens) → Misfit k p u → misfit refuse u ≡ refuse k p
-misfit-of refuse k p (next q t u) (e, e′) = rw (e, e′) refl
-misfit-of refuse k p (end n) (e, e′) = rw (e, e′) refl
-misfit-of refuse k p (bad j q) (e, e′) = rw (e, e′) refl
-
-token-off : {A : Type 0} (x : T.Token) (u : Tokens) (then : ℕ → Tokens → A) (otherwise : Unit {0} → A) → NotToken x u → onToken x u then otherwise ≡ otherwise tt
-token-off x (next p t u) then otherwise h = rw h refl
-token-off x (end n) then otherwise h = refl
-token-off x (bad k p) then otherwise h = refl
 
 binary-off : (b : ℕ) (u : Tokens) (then : Binary → ℕ → Tokens → Parsed) (otherwise : Unit {0} → Parsed) → NotBinary b u → onBinary b u then otherwise ≡ otherwise tt
 binary-off b (next p (T.word w) u) then otherwise h = refl

@@ -150,17 +150,17 @@ module _ (s : List ℕ) (at p q : ℕ) (m : Mark) (o : ℕ) (w w′ : Memory) wh
 
 -- ---- behind `other`
 
-misfit-of : {A : Type 0} (refuse : ℕ → ℕ → A) (k p : ℕ) (u : Tokens) → Misfit k p u → misfit refuse u ≡ refuse k p
+pub misfit-of : {A : Type 0} (refuse : ℕ → ℕ → A) (k p : ℕ) (u : Tokens) → Misfit k p u → misfit refuse u ≡ refuse k p
 misfit-of refuse k p (next q t u) (e, e′) = rw (e, e′) refl
 misfit-of refuse k p (end n) (e, e′) = rw (e, e′) refl
 misfit-of refuse k p (bad j q) (e, e′) = rw (e, e′) refl
 
-token-off : {A : Type 0} (x : T.Token) (u : Tokens) (then : ℕ → Tokens → A) (otherwise : Unit {0} → A) → NotToken x u → onToken x u then otherwise ≡ otherwise tt
+pub token-off : {A : Type 0} (x : T.Token) (u : Tokens) (then : ℕ → Tokens → A) (otherwise : Unit {0} → A) → NotToken x u → onToken x u then otherwise ≡ otherwise tt
 token-off x (next p t u) then otherwise h = rw h refl
 token-off x (end n) then otherwise h = refl
 token-off x (bad k p) then otherwise h = refl
 
-word-off : {A : Type 0} (u : Tokens) (then : ℕ → List ℕ → Tokens → A) (otherwise : Unit {0} → A) → NotWord u → onWord u then otherwise ≡ otherwise tt
+pub word-off : {A : Type 0} (u : Tokens) (then : ℕ → List ℕ → Tokens → A) (otherwise : Unit {0} → A) → NotWord u → onWord u then otherwise ≡ otherwise tt
 word-off (next p (T.word w) u) then otherwise h = absurd h
 word-off (next p (T.constant l) u) then otherwise h = refl
 word-off (next p (T.operator j) u) then otherwise h = refl

@@ -1,0 +1,3 @@
+pub mod Ads
+pub mod Laws
+pub mod Whole

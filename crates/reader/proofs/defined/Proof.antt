@@ -1,0 +1,36 @@
+use borrow.Author.Needs.{needs}
+use native.Mathlib.Omega.{arith}
+use mathlib.Core.Path.{_≡_, refl, sym, _∙_}
+use Prim.Native.Nat.{_+_, _-_, _≤_}
+use Rattle.reader.specs.Post.{definedIn}
+use Rattle.reader.proofs.Laws.{look-more, look-found, look-end, look-all}
+use Rattle.reader.proofs.defined.Statement.{statement}
+use Rattle.reader.proofs.defined.Tie as tie
+use Rattle.reader.proofs.defined.Reads as reads
+use Rattle.reader.proofs.defined.Lts as lts
+use Rattle.ad.proofs.has_name.Reads as has-name-reads
+
+abbrev Inv-loop : tie.InvT-loop
+Inv-loop words bytes d name j₀ j = (j ≤ d) × (definedIn words bytes name j (d - j) ≡ definedIn words bytes name 0 d)
+
+abbrev μ-loop : tie.MeasureT-loop
+μ-loop words bytes d name j₀ j = d - j
+
+loop-holds : tie.Need-loop-holds Inv-loop μ-loop
+loop-holds c = (omega arith, look-all _ _ _ _)
+
+returns : tie.Need-returns Inv-loop μ-loop
+returns c = look-found (c .before .before .before .before .before .before .before .args .words .now) (c .before .before .before .before .before .before .before .args .bytes .now) (c .before .before .before .before .before .before .before .args .name .now) (c .before .before .before .loop .j) (c .before .before .before .before .before .before .before .args .d) (omega arith) (sym (c .before .has-name .ensures) ∙ c .if1 .taken) ∙ c .before .before .before .loop .inv .1
+
+loop-less : tie.Need-loop-less Inv-loop μ-loop
+loop-less c = omega arith
+
+loop-again : tie.Need-loop-again Inv-loop μ-loop
+loop-again c = (omega arith, sym (look-more (c .before .before .before .before .before .before .before .args .words .now) (c .before .before .before .before .before .before .before .args .bytes .now) (c .before .before .before .before .before .before .before .args .name .now) (c .before .before .before .loop .j) (c .before .before .before .before .before .before .before .args .d) (omega arith) (sym (c .before .has-name .ensures) ∙ c .if1 .left)) ∙ c .before .before .before .loop .inv .1)
+
+returns-2 : tie.Need-returns-2 Inv-loop μ-loop
+returns-2 c = look-end (c .before .before .before .before .before .args .words .now) (c .before .before .before .before .before .args .bytes .now) (c .before .before .before .before .before .args .name .now) (c .before .loop .j) (c .before .before .before .before .before .args .d) (omega arith) ∙ c .before .loop .inv .1
+
+pub defined-spec : {M : Type 1} → statement M
+defined-spec = tie.close (tie.spec
+    Inv-loop μ-loop loop-holds (λ c κs. search needs) returns (λ c. search needs) loop-less loop-again returns-2)

@@ -1,0 +1,84 @@
+-- What the readers of definitions ensure. s is the text. Assumes nothing.
+use Prim.Native.Nat.{ℕ, zero, suc, _+_, _*_, _≤_, _<_}
+use mathlib.Core.Path.{_≡_}
+use mathlib.Core.Bool.{Bool, true, false, _||_}
+use mathlib.Core.List.{List, [], _∷_, _++_}
+use lib.ListN.{length, drop}
+use lib.Seq.{sets, slice}
+use Rattle.text.specs.Strings.{sameName}
+use Rattle.syntax.specs.Tree.{Expr, Definition, Ad, size, nodes}
+use Rattle.syntax.specs.Token.{Tokens, symbol, end}
+use Rattle.syntax.specs.Reader as R
+use Rattle.syntax.specs.Reader.{limits, conditionalAt, afterA, wantA, endA, admit, enough, definitionsAt, behindAt, adAt}
+use Rattle.syntax.specs.declared.Symbol.the-variants.{Assign}
+use Rattle.lexer.specs.Meaning.{tokensAt}
+use Rattle.ad.specs.Layout.{adNodes, adDefinitions, adBytes}
+use Rattle.ad.specs.Stored.{offsetAt, lengthAt, bytesAt}
+use Rattle.leaves.specs.Marks.{Mark, mark, Memory, memory, left}
+use Rattle.expressions.specs.declared.Read.{Read}
+use Rattle.expressions.specs.declared.Read.the-variants as E
+use Rattle.reader.specs.declared.Answer.{Answer}
+use Rattle.reader.specs.declared.Answer.the-variants.{Accepted, Refused}
+
+-- whether one of k stored definitions, from definition j on, has a name
+unfoldable pub definedIn : List ℕ → List ℕ → List ℕ → ℕ → ℕ → Bool
+definedIn w b name j zero = false
+definedIn w b name j (suc k) = sameName (bytesAt b (offsetAt w j) (lengthAt w j)) name || definedIn w b name (j + 1) k
+
+-- behind the ad a
+abbrev pub ends : Ad → Mark
+ends a = mark (nodes a) (length (adBytes a))
+
+-- the memory w with the ad a in it
+abbrev pub storedIn : Memory → Ad → Memory
+storedIn w a = memory (sets (sets (w .words) 0 (adNodes 0 0 a)) 4096 (adDefinitions 0 0 a)) (sets (w .bytes) 0 (adBytes a))
+
+-- r is p, and where that is an ad, v with the ad in it is w′
+abbrev pub AgreesAd : Memory → Memory → R.Answer → Answer → Type 0
+AgreesAd v w′ p (Accepted d n) = (a : Ad) × (p ≡ R.accepted a) × (d ≡ length a) × (n ≡ nodes a) × (w′ ≡ storedIn v a) × (length (adBytes a) ≤ length (v .bytes))
+AgreesAd v w′ p (Refused k q) = p ≡ R.denied k q
+
+-- what each is given
+pub record AdRoom (s : List ℕ) (at d : ℕ) (m : Mark) (w : Memory) : Type 0 where
+  pub place : at ≤ length s
+  pub few : d ≤ 256
+  pub fits : m .nodes ≤ 1024
+  pub words : 4864 ≤ length (w .words)
+  pub short : m .bytes ≤ at
+  pub bytes : length s ≤ length (w .bytes)
+
+-- the memory holds the ad a, of d definitions and m
+pub record Holds (d : ℕ) (m : Mark) (w : Memory) (v : Memory) (a : Ad) : Type 0 where
+  pub count : d ≡ length a
+  pub mark-of : m ≡ ends a
+  pub memory-of : w ≡ storedIn v a
+  pub short : m .bytes ≤ length (v .bytes)
+
+abbrev pub DefinitionsOk : List ℕ → ℕ → ℕ → Mark → Memory → Memory → Answer → Type 0
+DefinitionsOk s at d m w w′ r = (f : ℕ) → left s at < f → (a : Ad) (v : Memory) → Holds d m w v a → AgreesAd v w′ (definitionsAt limits f (tokensAt s at) a (m .nodes)) r
+
+abbrev pub BehindOk : List ℕ → ℕ → ℕ → Mark → Memory → Memory → Answer → Type 0
+BehindOk s at d m w w′ r = (f : ℕ) → left s at < f → (a : Ad) (v : Memory) → Holds d m w v a → AgreesAd v w′ (behindAt limits f (tokensAt s at) a (m .nodes)) r
+
+-- behind `]`
+abbrev pub EndOk : List ℕ → ℕ → ℕ → ℕ → Answer → Type 0
+EndOk s at d n (Accepted e k) = (e ≡ d) × (k ≡ n) × ((m : ℕ) × (tokensAt s at ≡ end m))
+EndOk s at d n (Refused k p) = (a : Ad) → endA (tokensAt s at) a ≡ R.denied k p
+
+-- the reader's way behind a Name w at p, from the place at on
+abbrev pub definitionAt : Tokens → List ℕ → ℕ → Ad → ℕ → (Expr → Tokens → R.Answer) → R.Answer
+definitionAt u w p a c go = admit limits w p a (λ _. wantA (symbol Assign) u (λ x. afterA (conditionalAt limits (enough x) x 0 c) go))
+
+abbrev pub one : List ℕ → Expr → Ad
+one w e = record { name = w; expression = e } ∷ []
+
+-- a definition whose Name stands from p up to q
+abbrev pub DefinitionOk : List ℕ → ℕ → ℕ → ℕ → Mark → Memory → Memory → Read → Type 0
+DefinitionOk s p q d m w w′ (E.Done r n k) =
+    (a : Ad) (v : Memory) → Holds d m w v a →
+    (e : Expr) × ((go : Expr → Tokens → R.Answer) → definitionAt (tokensAt s q) (slice p q s) p a (m .nodes) go ≡ go e (tokensAt s r)) × (n ≡ m .nodes + size e) × Holds (d + 1) (mark n k) w′ v (a ++ one (slice p q s) e)
+DefinitionOk s p q d m w w′ (E.Refused x y) = (a : Ad) (v : Memory) → Holds d m w v a → (go : Expr → Tokens → R.Answer) → definitionAt (tokensAt s q) (slice p q s) p a (m .nodes) go ≡ R.denied x y
+
+abbrev pub DefinitionWithin : List ℕ → ℕ → ℕ → Read → Type 0
+DefinitionWithin s q d (E.Done r n k) = (q ≤ r) × (r ≤ length s) × (n ≤ 1024) × (d < 256) × (k ≤ r) × (left s r + 1 ≤ left s q)
+DefinitionWithin s q d (E.Refused x y) = Unit {0}
