@@ -1,0 +1,22 @@
+use Rattle.dependency.proofs.Rule.{back-none, back-some}
+use borrow.Author.Needs.{needs}
+use Rattle.dependency.proofs.marks.back_from.Statement.{statement}
+use Rattle.dependency.proofs.marks.back_from.Tie as tie
+use Rattle.dependency.proofs.marks.back_from.Reads as reads
+use Rattle.dependency.proofs.marks.back_from.Lts as lts
+
+-- src/marks.rt:99:31
+
+-- src/marks.rt:99:9
+returns : tie.Need-returns
+returns c = back-none _ _ (c .if1 .taken)
+
+-- src/marks.rt:101:22
+
+-- src/marks.rt:94:1
+returns-2 : tie.Need-returns-2
+returns-2 c = back-some _ _ (c .if1 .left)
+
+pub back-from-spec : {M : Type 1} → statement M
+back-from-spec = tie.close (tie.spec
+    (λ c. search needs) returns (λ c. search needs) returns-2)
