@@ -1,2 +1,4 @@
 pub mod Rule
 pub mod Reading
+pub mod Numbering
+pub mod Steps

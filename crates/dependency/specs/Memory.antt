@@ -11,8 +11,9 @@ use Rattle.graph.specs.Members.{_∈_, Distinct}
 use Rattle.graph.specs.Graph.{Graph, Sound, Flags, IsList}
 use Rattle.graph.specs.Transition.{State, flags, stampOf, searches, start, goes, marked, unmarked, transition, transitions, first, Ended}
 use Rattle.graph.specs.declared.Place.{Place}
-use Rattle.graph.specs.declared.Place.the-variants.{Between}
-use Rattle.dependency.specs.Pair.{Formed, pairGraph}
+use Rattle.graph.specs.declared.Place.the-variants.{Resolving, Between, Inside}
+use Rattle.dependency.specs.Pair.{Formed, Stands, pairGraph}
+use Rattle.dependency.specs.Stored.{nodeCount}
 use Rattle.dependency.specs.declared.Lookup.{Lookup}
 use Rattle.dependency.specs.declared.Lookup.the-variants.{Found, Absent, Circular}
 
@@ -38,6 +39,10 @@ view place len target stamp from followed flag list = record {
 -- the flags, one set where b holds
 unfoldable pub flaggedAt : List ℕ → ℕ → Bool → List ℕ
 flaggedAt flag x b = cond b (set flag x 1) flag
+
+-- the room of each slice: every node of each side has its own
+abbrev pub marksRoom : ℕ
+marksRoom = maxNodes + maxNodes
 
 -- ---- what a transition goes by: facts of the place and of the node or link at hand, and none of the other marks
 
@@ -73,6 +78,13 @@ pub record Grows (len len′ : ℕ) (list list′ : List ℕ) : Type 0 where
   pub fits : len ≤ length list → len′ ≤ length list
   pub behind : (i : ℕ) → len′ ≤ i → getD list′ i 0 ≡ getD list i 0
 
+-- What one transition of a pair asks: of the ads and the sizes, and of the place. Of what the marks hold it asks only that the
+-- target recorded of the node at hand is a number of a node.
+abbrev pub PlaceFits : (v w : List ℕ) → (searches m len : ℕ) → (target list : List ℕ) → Place → Type 0
+PlaceFits v w searches m len target list (Resolving i) = i < nodeCount v + nodeCount w
+PlaceFits v w searches m len target list (Between k) = k < searches
+PlaceFits v w searches m len target list (Inside k x) = Stands v w x × (k < searches) × (m ≤ k → len < length list) × (getD target x 0 ≤ marksRoom)
+
 -- ---- what is found of a reference when the traversal is over, from its marks alone
 
 abbrev pub foundAt : ℕ → Lookup
@@ -83,10 +95,6 @@ unfoldable pub lookupOf : (target flag : List ℕ) → ℕ → Lookup
 lookupOf target flag x = cond (raised flag x) Circular (foundAt (getD target x 0))
 
 -- ---- the traversal
-
--- the room of each slice: every node of each side has its own
-abbrev pub marksRoom : ℕ
-marksRoom = maxNodes + maxNodes
 
 abbrev pub Clear : List ℕ → Type 0
 Clear l = (i : ℕ) → getD l i 0 ≡ 0

@@ -79,6 +79,16 @@ pub record Formed (w : List ℕ) : Type 0 where
   pub roots-in : (j : ℕ) → j < definitionCount w → rootAt w j < nodeCount w
   pub definitions-few : definitionCount w ≤ nodeCount w
 
+-- a well-formed ad, and its counts
+pub record Measured (w : List ℕ) (n d : ℕ) : Type 0 where
+  pub formed : Formed w
+  pub nodes-are : n ≡ nodeCount w
+  pub definitions-are : d ≡ definitionCount w
+
+-- x is a node of the pair
+abbrev pub Stands : (v w : List ℕ) → ℕ → Type 0
+Stands v w x = both (λ i. ltb i (nodeCount v)) (λ i. ltb i (nodeCount w)) x ≡ true
+
 -- no name is empty: 'Name: a letter or `_`, then ..'
 unfoldable pub Named : Ad → Type 0
 Named [] = Unit {0}

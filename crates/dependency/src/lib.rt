@@ -1,6 +1,9 @@
 // Dependencies: what leads to what in two stored ads, and the traversal that finds the circular references and the list.
-mod marks;
 mod stored;
+
+mod marks;
+
+mod ads;
 
 ghost use mathlib.Core.Path.{_≡_};
 ghost use Prim.Native.Nat.{_<_};

@@ -56,6 +56,7 @@ pub fn resolve(
 ) -> Position
     requires { ⌜ (i < n) × (x < length (now target)) ⌝ }
     ensures { λ r. ⌜ ((G : Graph) (st fr fo fl ls : List ℕ) → AtNode G i n x found → view (r .place) (r .len) (now (target .exit)) st fr fo fl ls ≡ transition G (view (Resolving i) len (now (target .entry)) st fr fo fl ls)) ⌝ }
+    ensures kept { λ r. ⌜ r .len ≡ len ⌝ }
 {
     target[x] = found;
     let j = i + 1;
@@ -83,6 +84,7 @@ pub fn begin(
 ) -> Position
     requires { ⌜ (k < 4096) × (y < length (now stamp)) × (y < length (now from)) × (y < length (now followed)) ⌝ }
     ensures { λ r. ⌜ ((G : Graph) (ta fl ls : List ℕ) → AtStart G k y t → view (r .place) (r .len) ta (now (stamp .exit)) (now (from .exit)) (now (followed .exit)) fl ls ≡ transition G (view (Between k) len ta (now (stamp .entry)) (now (from .entry)) (now (followed .entry)) fl ls)) ⌝ }
+    ensures kept { λ r. ⌜ r .len ≡ len ⌝ }
 {
     if stamp[y] == t {
         return Position {
@@ -114,6 +116,7 @@ pub fn follow(
     requires nodes { ⌜ (x < 2048) × (x < length (now followed)) × (x < length (now flag)) × (i < 3) ⌝ }
     requires link { ⌜ (y < length (now stamp)) × (y < length (now from)) × (y < length (now followed)) ⌝ }
     ensures { λ r. ⌜ ((G : Graph) (ta ls : List ℕ) → AtLink G k x y t i closes ta (now (followed .entry)) (now (flag .entry)) → view (r .place) (r .len) ta (now (stamp .exit)) (now (from .exit)) (now (followed .exit)) (now (flag .exit)) ls ≡ transition G (view (Inside k x) len ta (now (stamp .entry)) (now (from .entry)) (now (followed .entry)) (now (flag .entry)) ls)) ⌝ }
+    ensures kept { λ r. ⌜ r .len ≡ len ⌝ }
 {
     if stamp[y] == t {
         pass(followed, flag, x, i, closes);

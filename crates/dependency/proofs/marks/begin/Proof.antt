@@ -1,3 +1,4 @@
+use mathlib.Core.Path.{refl}
 use Rattle.dependency.proofs.Rule.{begin-omit, begin-enter}
 use borrow.Author.Needs.{needs}
 use Rattle.dependency.proofs.marks.begin.Statement.{statement}
@@ -14,7 +15,7 @@ use Rattle.dependency.proofs.marks.mark.Reads as mark-reads
 
 -- src/marks.rt:61:9
 returns : tie.Need-returns
-returns c = λ G ta fl ls a. begin-omit a _ ta _ _ _ fl ls (c .if1 .taken)
+returns c = (λ G ta fl ls a. begin-omit a _ ta _ _ _ fl ls (c .if1 .taken), refl)
 
 -- src/marks.rt:63:5
 
@@ -26,7 +27,7 @@ returns c = λ G ta fl ls a. begin-omit a _ ta _ _ _ fl ls (c .if1 .taken)
 
 -- src/marks.rt:56:1
 returns-2 : tie.Need-returns-2
-returns-2 c = λ G ta fl ls a. let e = c .before .before .before .before .before .before .mark .ensures in let p = c .before .before .before .before .before .before .before .before .before .before .before .before .before .before .before .pre in rw (e .0, e .1, e .2) (begin-enter a _ ta _ _ _ fl ls (p .1) (p .2) (p .3) (c .before .before .before .before .before .before .before .before .before .before .if1 .left))
+returns-2 c = (λ G ta fl ls a. let e = c .before .before .before .before .before .before .mark .ensures in let p = c .before .before .before .before .before .before .before .before .before .before .before .before .before .before .before .pre in rw (e .0, e .1, e .2) (begin-enter a _ ta _ _ _ fl ls (p .1) (p .2) (p .3) (c .before .before .before .before .before .before .before .before .before .before .if1 .left)), refl)
 
 pub begin-spec : {M : Type 1} → statement M
 begin-spec = tie.close (tie.spec

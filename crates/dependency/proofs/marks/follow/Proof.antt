@@ -1,3 +1,4 @@
+use mathlib.Core.Path.{refl}
 use Rattle.dependency.proofs.Rule.{follow-pass, follow-enter}
 use borrow.Author.Needs.{needs}
 use Rattle.dependency.proofs.marks.follow.Statement.{statement}
@@ -19,7 +20,7 @@ use Rattle.dependency.proofs.marks.pass.Reads as pass-reads
 
 -- src/marks.rt:87:9
 returns : tie.Need-returns
-returns c = λ G ta ls a. let e = c .before .before .before .before .pass .ensures in let p = c .before .before .before .before .before .before .before .before .before .before .before .before .before .pre in rw (e .0, e .1) (follow-pass a _ _ _ ls (p .0 .1) (p .0 .2) (c .before .before .before .before .before .before .before .if1 .taken))
+returns c = (λ G ta ls a. let e = c .before .before .before .before .pass .ensures in let p = c .before .before .before .before .before .before .before .before .before .before .before .before .before .pre in rw (e .0, e .1) (follow-pass a _ _ _ ls (p .0 .1) (p .0 .2) (c .before .before .before .before .before .before .before .if1 .taken)), refl)
 
 -- src/marks.rt:89:39
 
@@ -33,7 +34,7 @@ returns c = λ G ta ls a. let e = c .before .before .before .before .pass .ensur
 
 -- src/marks.rt:68:1
 returns-2 : tie.Need-returns-2
-returns-2 c = λ G ta ls a. let e = c .before .before .before .before .before .before .mark .ensures in let p = c .before .before .before .before .before .before .before .before .before .before .before .before .before .before .before .before .pre in rw (e .0, e .1, e .2) (follow-enter a _ _ _ ls (p .1 .0) (p .1 .1) (p .1 .2) (c .before .before .before .before .before .before .before .before .before .before .if1 .left))
+returns-2 c = (λ G ta ls a. let e = c .before .before .before .before .before .before .mark .ensures in let p = c .before .before .before .before .before .before .before .before .before .before .before .before .before .before .before .before .pre in rw (e .0, e .1, e .2) (follow-enter a _ _ _ ls (p .1 .0) (p .1 .1) (p .1 .2) (c .before .before .before .before .before .before .before .before .before .before .if1 .left)), refl)
 
 pub follow-spec : {M : Type 1} → statement M
 follow-spec = tie.close (tie.spec

@@ -16,13 +16,13 @@ use Rattle.dependency.proofs.marks.resolve.Lts as lts
 
 -- src/marks.rt:50:9
 returns : tie.Need-returns
-returns c = λ G st fr fo fl ls a. resolve-more a _ _ st fr fo fl ls (search needs) refl (c .if1 .taken)
+returns c = (λ G st fr fo fl ls a. resolve-more a _ _ st fr fo fl ls (search needs) refl (c .if1 .taken), refl)
 
 -- src/marks.rt:43:1
 
 -- src/marks.rt:43:1
 returns-2 : tie.Need-returns-2
-returns-2 c = λ G st fr fo fl ls a. resolve-last a _ _ st fr fo fl ls (search needs) refl (search needs)
+returns-2 c = (λ G st fr fo fl ls a. resolve-last a _ _ st fr fo fl ls (search needs) refl (search needs), refl)
 
 pub resolve-spec : {M : Type 1} → statement M
 resolve-spec = tie.close (tie.spec
