@@ -348,7 +348,7 @@ module _ (v b w c : List ℕ) where
         let a : k < definitionCount v = let z = p .definitions-are in omega arith in
         let l : k < length (rootsFrom v 0 (definitionCount v)) = rw (roots-length v 0 (definitionCount v)) a in
         let l′ : k < length (rootsFrom v 0 (definitionCount v) ++ map (numbered true) (rootsFrom w 0 (definitionCount w))) =
-              let z = length-append (rootsFrom v 0 (definitionCount v)) (map (numbered true) (rootsFrom w 0 (definitionCount w))) in omega arith in
+        let z = length-append (rootsFrom v 0 (definitionCount v)) (map (numbered true) (rootsFrom w 0 (definitionCount w))) in omega arith in
         e ∙ ap (rootAt v) (let z : k ≡ 0 + k = omega arith in z) ∙ sym (roots-at v 0 (definitionCount v) k a)
         ∙ sym (List·getD-append (rootsFrom v 0 (definitionCount v)) (map (numbered true) (rootsFrom w 0 (definitionCount w))) 0 k l)
         ∙ sym (List·getD-append (rootsFrom v 0 (definitionCount v) ++ map (numbered true) (rootsFrom w 0 (definitionCount w))) (pairGraph v b w c .roots) 0 k l′)
@@ -364,9 +364,9 @@ module _ (v b w c : List ℕ) where
         let k₁ : k ≡ length (rootsFrom v 0 (definitionCount v)) + j = let z = roots-length v 0 (definitionCount v) in omega arith in
         let f′ : j < length (rootsFrom w 0 (definitionCount w)) = rw (roots-length w 0 (definitionCount w)) f in
         let l′ : k < length (rootsFrom v 0 (definitionCount v) ++ map (numbered true) (rootsFrom w 0 (definitionCount w))) =
-              let z = length-append (rootsFrom v 0 (definitionCount v)) (map (numbered true) (rootsFrom w 0 (definitionCount w))) in
-              let y = length-map (rootsFrom w 0 (definitionCount w)) (numbered true) in
-              omega arith in
+        let z = length-append (rootsFrom v 0 (definitionCount v)) (map (numbered true) (rootsFrom w 0 (definitionCount w))) in
+        let y = length-map (rootsFrom w 0 (definitionCount w)) (numbered true) in
+        omega arith in
         ap (λ (u : ℕ). 1024 + u) (e ∙ ap (rootAt w) (let z : j ≡ 0 + j = omega arith in z) ∙ sym (roots-at w 0 (definitionCount w) j f))
         ∙ sym (map-at (numbered true) (rootsFrom w 0 (definitionCount w)) j f′)
         ∙ sym (getD-append-add (rootsFrom v 0 (definitionCount v)) (map (numbered true) (rootsFrom w 0 (definitionCount w))) j 0)

@@ -63,7 +63,7 @@ pub flagged-no : (l : List ℕ) (x : ℕ) {b : Bool} → b ≡ false → l ≡ f
 unfolding flaggedAt
 flagged-no l x e = rw e refl
 
-state-eq : {p p′ : Place} {a a′ b b′ c c′ d d′ : ℕ → ℕ} {f f′ : ℕ → Bool} {l l′ : List ℕ} → p ≡ p′ → a ≡ a′ → b ≡ b′ → c ≡ c′ → d ≡ d′ → f ≡ f′ → l ≡ l′ →
+pub state-eq : {p p′ : Place} {a a′ b b′ c c′ d d′ : ℕ → ℕ} {f f′ : ℕ → Bool} {l l′ : List ℕ} → p ≡ p′ → a ≡ a′ → b ≡ b′ → c ≡ c′ → d ≡ d′ → f ≡ f′ → l ≡ l′ →
     _≡_ {A = State} (record { place = p; target = a; stamp = b; from = c; followed = d; flag = f; list = l })
     (record { place = p′; target = a′; stamp = b′; from = c′; followed = d′; flag = f′; list = l′ })
 state-eq e₁ e₂ e₃ e₄ e₅ e₆ e₇ = λ i. record { place = e₁ i; target = e₂ i; stamp = e₃ i; from = e₄ i; followed = e₅ i; flag = e₆ i; list = e₇ i }

@@ -26,7 +26,7 @@ kept-grows {len} {len′} ls e = subst (λ (u : ℕ). Grows len u ls ls) (sym e)
 pub stands-in : (v w : List ℕ) (x : ℕ) (l : List ℕ) → Stands v w x → 2048 ≤ length l → x < length l
 stands-in v w x l s h = let a = stands-small v w x s in omega arith
 
-pair-size : (v b w c : List ℕ) → pairGraph v b w c .size ≡ nodeCount v + nodeCount w
+pub pair-size : (v b w c : List ℕ) → pairGraph v b w c .size ≡ nodeCount v + nodeCount w
 unfolding pairGraph
 pair-size v b w c = refl
 
@@ -46,9 +46,10 @@ module _ {v w : List ℕ} {n d n′ d′ : ℕ} (p : Measured v n d) (q : Measur
   pub step-node : (b c : List ℕ) {i x found : ℕ} → x ≡ cond (ltb i n) i (1024 + (i - n)) →
       found ≡ cond (pairGraph v b w c .ref x) (marked (pairGraph v b w c .links x)) 0 → AtNode (pairGraph v b w c) i (n + n′) x found
   step-node b c {i} e f = record {
-      size-is = (let a = p .nodes-are in let g = q .nodes-are in let z : n + n′ ≡ nodeCount v + nodeCount w = omega arith in z) ∙ sym (pair-size v b w c);
-      node-is = nth-is b c i e;
-      found-is = f }
+    size-is = (let a = p .nodes-are in let g = q .nodes-are in let z : n + n′ ≡ nodeCount v + nodeCount w = omega arith in z) ∙ sym (pair-size v b w c);
+    node-is = nth-is b c i e;
+    found-is = f;
+  }
 
   searches-are : (b c roots : List ℕ) {k : ℕ} → roots ≡ pairGraph v b w c .roots → k < d + d′ + length roots → k < searches (pairGraph v b w c)
   unfolding searches
@@ -57,9 +58,10 @@ module _ {v w : List ℕ} {n d n′ d′ : ℕ} (p : Measured v n d) (q : Measur
   pub step-start : (b c roots : List ℕ) {k y t : ℕ} → roots ≡ pairGraph v b w c .roots → k < d + d′ + length roots → y ≡ start (pairGraph v b w c) k →
       t ≡ cond (ltb k (d + d′)) (k + 1) (d + d′ + 1) → AtStart (pairGraph v b w c) k y t
   step-start b c roots {k} e h s t = record {
-      search-in = searches-are b c roots e h;
-      start-is = s;
-      stamp-is = stamp-is (pairGraph v b w c) (d + d′) k 0 [] [] (sources-are v b w c p q 0) t }
+    search-in = searches-are b c roots e h;
+    start-is = s;
+    stamp-is = stamp-is (pairGraph v b w c) (d + d′) k 0 [] [] (sources-are v b w c p q 0) t;
+  }
 
   module _ (b c : List ℕ) (k x i dd : ℕ) (ta fo fl : List ℕ) (de : dd ≡ length (goes (pairGraph v b w c) k (numbers ta) (raised fl) x)) (ie : i ≡ getD fo x 0) where
     pub step-link : {y t : ℕ} {closes : Bool} → i < dd → y ≡ getD (led (pairGraph v b w c) (numbers ta) x) i 0 →
@@ -68,17 +70,19 @@ module _ {v w : List ℕ} {n d n′ d′ : ℕ} (p : Measured v n d) (q : Measur
     step-link {y} h ye te ce =
         let g : i < length (goes (pairGraph v b w c) k (numbers ta) (raised fl) x) = omega arith in
         record {
-            stamp-is = stamp-is (pairGraph v b w c) (d + d′) k 0 [] [] (sources-are v b w c p q 0) te;
-            index-is = ie;
-            more = g;
-            next-is = goes-next (pairGraph v b w c) k x i y ta fl g ye;
-            closes-is = ce }
+          stamp-is = stamp-is (pairGraph v b w c) (d + d′) k 0 [] [] (sources-are v b w c p q 0) te;
+          index-is = ie;
+          more = g;
+          next-is = goes-next (pairGraph v b w c) k x i y ta fl g ye;
+          closes-is = ce;
+        }
 
     pub link-in : i < dd → i < length (led (pairGraph v b w c) (numbers ta) x)
     link-in h = goes-in (pairGraph v b w c) k x i ta fl (let g : i < length (goes (pairGraph v b w c) k (numbers ta) (raised fl) x) = omega arith in g)
 
     pub step-last : {f : ℕ} {fr : List ℕ} → dd ≤ i → f ≡ getD fr x 0 → AtLast (pairGraph v b w c) (d + d′) k x f ta fr fo fl
     step-last h fe = record {
-        sources-are = sources-are v b w c p q 0;
-        over = omega arith;
-        from-is = fe }
+      sources-are = sources-are v b w c p q 0;
+      over = omega arith;
+      from-is = fe;
+    }

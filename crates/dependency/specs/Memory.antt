@@ -5,7 +5,7 @@ use mathlib.Core.Bool.{Bool, true, false, cond, _&&_}
 use mathlib.Core.List.{List, [], _∷_, _++_, map}
 use Prim.Native.Nat.{ℕ, zero, suc, _+_, _-_, _*_, _≤_, _<_}
 use lib.ListN.{length, getD, set, take, replicate}
-use lib.Dec.{eqb}
+use lib.Dec.{eqb, leb}
 use Rattle.syntax.specs.Bounds.{maxNodes}
 use Rattle.graph.specs.Members.{_∈_, Distinct}
 use Rattle.graph.specs.Graph.{Graph, Sound, Flags, IsList}
@@ -98,6 +98,12 @@ lookupOf target flag x = cond (raised flag x) Circular (foundAt (getD target x 0
 
 abbrev pub Clear : List ℕ → Type 0
 Clear l = (i : ℕ) → getD l i 0 ≡ 0
+
+-- whether there is no search left, of n
+abbrev pub endedAt : Place → ℕ → Bool
+endedAt (Resolving i) n = false
+endedAt (Between k) n = leb n k
+endedAt (Inside k x) n = false
 
 -- slices of marks, and of the list, long enough
 pub record Roomy (target stamp from followed flag list : List ℕ) : Type 0 where

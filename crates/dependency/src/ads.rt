@@ -1,9 +1,8 @@
 // Two stored ads as one graph: its nodes, links and searches by their numbers, and one transition of it.
-use graph::Place;
 use crate::marks;
 use crate::marks::Position;
 use crate::stored;
-
+use graph::Place;
 ghost use mathlib.Core.Path.{_≡_};
 ghost use mathlib.Core.Bool.{Bool, false, true, not, cond, _&&_};
 ghost use mathlib.Core.List.{List, map, _++_};
@@ -14,7 +13,7 @@ ghost use Rattle.graph.specs.Transition.{flags, stampOf, searches, start, led, 
 ghost use Rattle.graph.specs.declared.Place.the-variants.{Resolving, Between, Inside};
 ghost use Rattle.dependency.specs.Stored.{kindAt, operandAt, nodeCount, isReference, find};
 ghost use Rattle.dependency.specs.Pair.{numbered, linked, linksFrom, both, pairGraph, Formed, Measured, Stands};
-ghost use Rattle.dependency.specs.Memory.{numbers, raised, view, Roomy, Grows};
+ghost use Rattle.dependency.specs.Memory.{numbers, raised, view, PlaceFits, Roomy, Grows};
 
 const NODES: usize = 1024;
 
@@ -30,7 +29,10 @@ pub fn measure(words: &[u64]) -> Counts
 {
     let n = stored::count_nodes(words);
     let d = stored::count_definitions(words);
-    Counts { nodes: n, definitions: d }
+    Counts {
+        nodes: n,
+        definitions: d,
+    }
 }
 
 // The kind of the node x.
@@ -85,7 +87,15 @@ fn led_to(v: &[u64], w: &[u64], target: &[usize], x: usize, i: usize) -> usize
 }
 
 // How many links search k follows from x; m searches are the definitions'.
-fn degree(v: &[u64], w: &[u64], target: &[usize], flag: &[usize], m: usize, k: usize, x: usize) -> usize
+fn degree(
+    v: &[u64],
+    w: &[u64],
+    target: &[usize],
+    flag: &[usize],
+    m: usize,
+    k: usize,
+    x: usize,
+) -> usize
     requires { ⌜ Formed (now v) × Formed (now w) × Stands (now v) (now w) x × (x < length (now target)) × (x < length (now flag)) ⌝ }
     ensures { λ r. ⌜ ((b c : List ℕ) → length (pairGraph (now (v .entry)) b (now (w .entry)) c .sources) ≡ m → r ≡ length (goes (pairGraph (now (v .entry)) b (now (w .entry)) c) k (numbers (now (target .entry))) (raised (now (flag .entry))) x)) ⌝ }
     ensures few { λ r. ⌜ r ≤ 3 ⌝ }
@@ -118,7 +128,16 @@ fn start_of(v: &[u64], w: &[u64], p: Counts, q: Counts, roots: &[usize], k: usiz
 }
 
 // Whether the link from x to y closes a cycle in search k.
-fn closes(v: &[u64], w: &[u64], p: Counts, q: Counts, roots: &[usize], k: usize, x: usize, y: usize) -> bool
+fn closes(
+    v: &[u64],
+    w: &[u64],
+    p: Counts,
+    q: Counts,
+    roots: &[usize],
+    k: usize,
+    x: usize,
+    y: usize,
+) -> bool
     requires { ⌜ Measured (now v) (p .nodes) (p .definitions) × Measured (now w) (q .nodes) (q .definitions) × Stands (now v) (now w) x × (k < p .definitions + q .definitions + length (now roots)) ⌝ }
     ensures { λ r. ⌜ ((b c : List ℕ) → now (roots .entry) ≡ pairGraph (now (v .entry)) b (now (w .entry)) c .roots → r ≡ (flags (pairGraph (now (v .entry)) b (now (w .entry)) c) k && (pairGraph (now (v .entry)) b (now (w .entry)) c .ref x && eqb y (start (pairGraph (now (v .entry)) b (now (w .entry)) c) k)))) ⌝ }
 {
@@ -165,7 +184,16 @@ fn opposite(b: bool) -> bool
 
 // What is to be recorded of node i of an ad, `second` or the first: where its name is found, if it is a reference. There are d
 // definitions here, and e in the other ad.
-fn found_from(words: &[u64], bytes: &[u8], d: usize, others: &[u64], names: &[u8], e: usize, i: usize, second: bool) -> usize
+fn found_from(
+    words: &[u64],
+    bytes: &[u8],
+    d: usize,
+    others: &[u64],
+    names: &[u8],
+    e: usize,
+    i: usize,
+    second: bool,
+) -> usize
     requires own { ⌜ Measured (now words) (nodeCount (now words)) d × Measured (now others) (nodeCount (now others)) e × (i < nodeCount (now words)) ⌝ }
     ensures { λ r. ⌜ r ≡ cond (isReference (kindAt (now (words .entry)) i)) (marked (map (linked second) (linksFrom (now (words .entry)) (now (bytes .entry)) (now (others .entry)) (now (names .entry)) i))) 0 ⌝ }
 {
@@ -194,7 +222,17 @@ fn found_at(v: &[u64], b: &[u8], d: usize, w: &[u64], c: &[u8], e: usize, x: usi
 }
 
 // The transition that resolves the node of index i.
-fn resolving(v: &[u64], b: &[u8], p: Counts, w: &[u64], c: &[u8], q: Counts, i: usize, len: usize, target: &mut [usize]) -> Position
+fn resolving(
+    v: &[u64],
+    b: &[u8],
+    p: Counts,
+    w: &[u64],
+    c: &[u8],
+    q: Counts,
+    i: usize,
+    len: usize,
+    target: &mut [usize],
+) -> Position
     requires { ⌜ Measured (now v) (p .nodes) (p .definitions) × Measured (now w) (q .nodes) (q .definitions) × (i < nodeCount (now v) + nodeCount (now w)) × (2048 ≤ length (now target)) ⌝ }
     ensures { λ r. ⌜ ((st fr fo fl ls : List ℕ) → view (r .place) (r .len) (now (target .exit)) st fr fo fl ls ≡ transition (pairGraph (now (v .entry)) (now (b .entry)) (now (w .entry)) (now (c .entry))) (view (Resolving i) len (now (target .entry)) st fr fo fl ls)) ⌝ }
     ensures kept { λ r. ⌜ r .len ≡ len ⌝ }
@@ -206,7 +244,18 @@ fn resolving(v: &[u64], b: &[u8], p: Counts, w: &[u64], c: &[u8], q: Counts, i: 
 }
 
 // The transition that begins search k.
-fn between(v: &[u64], p: Counts, w: &[u64], q: Counts, roots: &[usize], k: usize, len: usize, stamp: &mut [usize], from: &mut [usize], followed: &mut [usize]) -> Position
+fn between(
+    v: &[u64],
+    p: Counts,
+    w: &[u64],
+    q: Counts,
+    roots: &[usize],
+    k: usize,
+    len: usize,
+    stamp: &mut [usize],
+    from: &mut [usize],
+    followed: &mut [usize],
+) -> Position
     requires ads { ⌜ Measured (now v) (p .nodes) (p .definitions) × Measured (now w) (q .nodes) (q .definitions) × (k < p .definitions + q .definitions + length (now roots)) × (length (now roots) ≤ 4) × ((i : ℕ) → i < length (now roots) → getD (now roots) i 0 < 2048) ⌝ }
     requires room { ⌜ (2048 ≤ length (now stamp)) × (2048 ≤ length (now from)) × (2048 ≤ length (now followed)) ⌝ }
     ensures { λ r. ⌜ ((b c ta fl ls : List ℕ) → now (roots .entry) ≡ pairGraph (now (v .entry)) b (now (w .entry)) c .roots → view (r .place) (r .len) ta (now (stamp .exit)) (now (from .exit)) (now (followed .exit)) fl ls ≡ transition (pairGraph (now (v .entry)) b (now (w .entry)) c) (view (Between k) len ta (now (stamp .entry)) (now (from .entry)) (now (followed .entry)) fl ls)) ⌝ }
@@ -251,4 +300,94 @@ fn inside(
     }
     let f = from[x];
     marks::leave(m, k, x, f, len, list)
+}
+
+// One transition, from any place and over any marks.
+pub fn transition(
+    v: &[u64],
+    b: &[u8],
+    p: Counts,
+    w: &[u64],
+    c: &[u8],
+    q: Counts,
+    roots: &[usize],
+    s: Position,
+    target: &mut [usize],
+    stamp: &mut [usize],
+    from: &mut [usize],
+    followed: &mut [usize],
+    flag: &mut [usize],
+    list: &mut [u64],
+) -> Position
+    requires ads { ⌜ Measured (now v) (p .nodes) (p .definitions) × Measured (now w) (q .nodes) (q .definitions) × (now roots ≡ pairGraph (now v) (now b) (now w) (now c) .roots) ⌝ }
+    requires room { ⌜ Roomy (now target) (now stamp) (now from) (now followed) (now flag) (now list) × PlaceFits (now v) (now w) (p .definitions + q .definitions + length (now roots)) (p .definitions + q .definitions) (s .len) (now target) (now list) (s .place) ⌝ }
+    ensures { λ r. ⌜ view (r .place) (r .len) (now (target .exit)) (now (stamp .exit)) (now (from .exit)) (now (followed .exit)) (now (flag .exit)) (now (list .exit)) ≡ transition (pairGraph (now (v .entry)) (now (b .entry)) (now (w .entry)) (now (c .entry))) (view (s .place) (s .len) (now (target .entry)) (now (stamp .entry)) (now (from .entry)) (now (followed .entry)) (now (flag .entry)) (now (list .entry))) ⌝ }
+    ensures room { λ r. ⌜ Grows (s .len) (r .len) (now (list .entry)) (now (list .exit)) ⌝ }
+{
+    let place = s.place;
+    let len = s.len;
+    match place {
+        Place::Resolving(i) => resolving(v, b, p, w, c, q, i, len, target),
+        Place::Between(k) => between(v, p, w, q, roots, k, len, stamp, from, followed),
+        Place::Inside(k, x) => inside(
+            v,
+            p,
+            w,
+            q,
+            roots,
+            k,
+            x,
+            len,
+            target,
+            stamp,
+            from,
+            followed,
+            flag,
+            list,
+        ),
+    }
+}
+
+// The root of a name's definition, if there is one, becomes the n-th of the roots.
+fn add_root(
+    words: &[u64],
+    bytes: &[u8],
+    d: usize,
+    name: &[u8],
+    second: bool,
+    roots: &mut [usize],
+    n: usize,
+) -> usize
+    requires { ⌜ Measured (now words) (nodeCount (now words)) d × (n < length (now roots)) ⌝ }
+    ensures { λ r. ⌜ take r (now (roots .exit)) ≡ take n (now (roots .entry)) ++ map (numbered second) (find (now (words .entry)) (now (bytes .entry)) (now (name .entry))) ⌝ }
+    ensures few { λ r. ⌜ r ≤ n + 1 ⌝ }
+{
+    let f = stored::find_name(words, bytes, d, name, second);
+    if f == 0 {
+        return n;
+    }
+    roots[n] = f - 1;
+    n + 1
+}
+
+// The first ad's Requirements, the second's, the first's Rank, the second's, those that exist.
+pub fn find_roots(
+    v: &[u64],
+    b: &[u8],
+    p: Counts,
+    w: &[u64],
+    c: &[u8],
+    q: Counts,
+    roots: &mut [usize],
+) -> usize
+    requires { ⌜ Measured (now v) (p .nodes) (p .definitions) × Measured (now w) (q .nodes) (q .definitions) × (4 ≤ length (now roots)) ⌝ }
+    ensures { λ r. ⌜ take r (now (roots .exit)) ≡ pairGraph (now (v .entry)) (now (b .entry)) (now (w .entry)) (now (c .entry)) .roots ⌝ }
+    ensures few { λ r. ⌜ r ≤ 4 ⌝ }
+{
+    let d = p.definitions;
+    let e = q.definitions;
+    let i = add_root(v, b, d, b"Requirements", false, roots, 0);
+    let j = add_root(w, c, e, b"Requirements", true, roots, i);
+    let k = add_root(v, b, d, b"Rank", false, roots, j);
+    add_root(w, c, e, b"Rank", true, roots, k)
 }

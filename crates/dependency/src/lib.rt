@@ -1,15 +1,19 @@
 // Dependencies: what leads to what in two stored ads, and the traversal that finds the circular references and the list.
+mod ads;
+mod marks;
 mod stored;
 
-mod marks;
-
-mod ads;
-
+use ads::Counts;
+use graph::Place;
+use marks::Position;
 ghost use mathlib.Core.Path.{_≡_};
-ghost use Prim.Native.Nat.{_<_};
+ghost use mathlib.Core.Bool.{cond};
+ghost use Prim.Native.Nat.{_+_, _<_, _≤_};
 ghost use lib.ListN.{length};
-ghost use Rattle.dependency.specs.Pair.{pairGraph};
-ghost use Rattle.dependency.specs.Memory.{lookupOf};
+ghost use lib.Dec.{ltb};
+ghost use Rattle.graph.specs.declared.Place.the-variants.{Resolving, Between};
+ghost use Rattle.dependency.specs.Pair.{pairGraph, Measured};
+ghost use Rattle.dependency.specs.Memory.{lookupOf, endedAt, Ready, Traversed};
 
 // What is found of a reference: its definition's root, by number; no definition; or a cycle back to the reference itself.
 pub enum Lookup {
@@ -31,4 +35,126 @@ pub fn resolved(target: &[usize], flag: &[usize], x: usize) -> Lookup
         return Lookup::Absent;
     }
     Lookup::Found(t - 1)
+}
+
+// How many transitions the traversal took, and how long the list is.
+pub struct Traversal {
+    pub count: usize,
+    pub length: usize,
+}
+
+// Where the traversal of n nodes begins.
+fn first_place(n: usize) -> Place
+    ensures { λ r. ⌜ r ≡ cond (ltb 0 n) (Resolving 0) (Between 0) ⌝ }
+{
+    if 0 < n {
+        return Place::Resolving(0);
+    }
+    Place::Between(0)
+}
+
+// Whether no search is left of n.
+fn ended(place: Place, n: usize) -> bool
+    ensures { λ r. ⌜ r ≡ endedAt place n ⌝ }
+{
+    match place {
+        Place::Resolving(_) => false,
+        Place::Between(k) => n <= k,
+        Place::Inside(_, _) => false,
+    }
+}
+
+// The transitions one after another, until no search is left.
+fn run(
+    v: &[u64],
+    b: &[u8],
+    p: Counts,
+    w: &[u64],
+    c: &[u8],
+    q: Counts,
+    roots: &[usize],
+    target: &mut [usize],
+    stamp: &mut [usize],
+    from: &mut [usize],
+    followed: &mut [usize],
+    flag: &mut [usize],
+    list: &mut [u64],
+) -> Traversal
+    requires ads { ⌜ Measured (now v) (p .nodes) (p .definitions) × Measured (now w) (q .nodes) (q .definitions) × (now roots ≡ pairGraph (now v) (now b) (now w) (now c) .roots) ⌝ }
+    requires ready { ⌜ Ready (now v) (now w) (now target) (now stamp) (now from) (now followed) (now flag) (now list) ⌝ }
+    ensures { λ r. ⌜ Traversed (pairGraph (now (v .entry)) (now (b .entry)) (now (w .entry)) (now (c .entry))) (r .count) (r .length) (now (target .exit)) (now (stamp .exit)) (now (from .exit)) (now (followed .exit)) (now (flag .exit)) (now (list .exit)) ⌝ }
+{
+    let n = p.definitions + q.definitions + roots.len();
+    let place = first_place(p.nodes + q.nodes);
+    let mut s = Position {
+        place: place,
+        len: 0,
+    };
+    let mut count: usize = 0;
+    loop {
+        let at = s.place;
+        if ended(at, n) {
+            let len = s.len;
+            return Traversal {
+                count: count,
+                length: len,
+            };
+        }
+        s = ads::transition(
+            v,
+            b,
+            p,
+            w,
+            c,
+            q,
+            roots,
+            s,
+            target,
+            stamp,
+            from,
+            followed,
+            flag,
+            list,
+        );
+        count += 1;
+    }
+}
+
+// The traversal of two stored ads: from clear marks and an empty list, each of 2,048 numbers or more, to the targets and flags of
+// their references and the list.
+pub fn traverse(
+    v: &[u64],
+    b: &[u8],
+    w: &[u64],
+    c: &[u8],
+    target: &mut [usize],
+    stamp: &mut [usize],
+    from: &mut [usize],
+    followed: &mut [usize],
+    flag: &mut [usize],
+    list: &mut [u64],
+) -> Traversal
+    requires { ⌜ Ready (now v) (now w) (now target) (now stamp) (now from) (now followed) (now flag) (now list) ⌝ }
+    ensures { λ r. ⌜ Traversed (pairGraph (now (v .entry)) (now (b .entry)) (now (w .entry)) (now (c .entry))) (r .count) (r .length) (now (target .exit)) (now (stamp .exit)) (now (from .exit)) (now (followed .exit)) (now (flag .exit)) (now (list .exit)) ⌝ }
+{
+    let p = ads::measure(v);
+    let q = ads::measure(w);
+    let mut room = [0usize; 4];
+    let n = ads::find_roots(v, b, p, w, c, q, &mut room);
+    let roots = &room[..n];
+    run(
+        v,
+        b,
+        p,
+        w,
+        c,
+        q,
+        roots,
+        target,
+        stamp,
+        from,
+        followed,
+        flag,
+        list,
+    )
 }

@@ -24,8 +24,8 @@ abbrev pub Awake : Graph → ℕ → Type 0
 Awake G c = (j : ℕ) → j < c → (transitions G j (first G)) .place ≢ Between (searches G)
 
 module _ (G : Graph) (w : Sound G) where
-  pub awake-Between : (c : ℕ) → Awake G c → (transitions G c (first G)) .place ≢ Between (searches G) → Awake G (c + 1)
-  awake-Between c a n j h = go (ℕ-discrete j c)
+  pub awake-next : (c : ℕ) → Awake G c → (transitions G c (first G)) .place ≢ Between (searches G) → Awake G (c + 1)
+  awake-next c a n j h = go (ℕ-discrete j c)
     where
       go : Dec (j ≡ c) → (transitions G j (first G)) .place ≢ Between (searches G)
       go (yes e) = rw e n
@@ -273,7 +273,7 @@ module _ (G : Graph) (w : Sound G) where
     where
       go : Dec ((transitions G c (first G)) .place ≡ Between (searches G)) → (Awake G (c + 1) → Exactly) → Exactly
       go (yes q) k = here-over (suc d) c e a q
-      go (no n) k = k (awake-Between c a n)
+      go (no n) k = k (awake-next c a n)
 
   pub traverse-exactly : Exactly
   traverse-exactly = least total 0 (omega arith) (λ j h. absurd (none j h))

@@ -71,9 +71,9 @@ module _ (G : Graph) (w : Sound G) where
       off : (y : ℕ) → s .stamp y ≤ k → s .stamp y ≡ suc k → ⊥
       off y a b = omega arith
 
-  searched-Between : (k : ℕ) (s s′ : State) {v′ l′ : List ℕ} {c : ℕ} → k < length (G .sources) → Searched k s →
+  searched-next : (k : ℕ) (s s′ : State) {v′ l′ : List ℕ} {c : ℕ} → k < length (G .sources) → Searched k s →
       Dfs (G .links) (start G k ∷ []) [] (G .links (start G k)) v′ l′ c → Worked G k (G .links) [] s s′ [] v′ (l′ ++ start G k ∷ []) → Searched (suc k) s′
-  searched-Between k s s′ {v′} {l′} h r d q = record {
+  searched-next k s s′ {v′} {l′} h r d q = record {
     place = q .place;
     stamps = λ y. small y (r .stamps y) (q .stamp-kept y);
     empty = q .idle .listed ∙ rw (flags-yes k h) refl;
@@ -214,7 +214,7 @@ module _ (G : Graph) (w : Sound G) where
       let f : length (G .links x) ≤ 3 = w .few x in
       let p : length (d .v′) ≤ G .size =
       w .room (d .v′) (apart (d .dfs) (dcons mem-nil dnil)) (below (Node G) (w .links-in) (d .dfs) (λ y m. only x xin y (mem-cons m)) (w .links-in x)) in
-      (suc (d .c + 1), searched-Between k s _ h r (d .dfs) q, omega arith)
+      (suc (d .c + 1), searched-next k s _ h r (d .dfs) q, omega arith)
     where
       only : (x : ℕ) → Node G x → (y : ℕ) → (y ≡ x) ⊎ (y ∈ []) → Node G y
       only x lt y (inl e) = rw e lt
@@ -319,8 +319,8 @@ module _ (G : Graph) (w : Sound G) where
     listed = rw (flags-no k (r .late)) (r .listed);
   }
 
-  listing-Between : {c : ℕ → Bool} {k : ℕ} {s s′ : State} {v l v′ l′ : List ℕ} → Listing c k s v l → Worked G k (needs G c) [] s s′ v v′ l′ → Listing c (suc k) s′ v′ l′
-  listing-Between {c} {k} {s} {s′} {v′ = v′} {l′ = l′} r q = record {
+  listing-next : {c : ℕ → Bool} {k : ℕ} {s s′ : State} {v l v′ l′ : List ℕ} → Listing c k s v l → Worked G k (needs G c) [] s s′ v v′ l′ → Listing c (suc k) s′ v′ l′
+  listing-next {c} {k} {s} {s′} {v′ = v′} {l′ = l′} r q = record {
     place = q .place;
     late = let h : length (G .sources) ≤ k = r .late in omega arith;
     same = λ y. bool-ext (s′ .flag y) (s .flag y) (λ e. old y (q .flag-only y e)) (λ e. q .flag-kept y e) ∙ r .same y;
@@ -367,7 +367,7 @@ module _ (G : Graph) (w : Sound G) where
       ltb k (searches G) ≡ true → Listing c k s v l → Listing c (suc k) (transitions G (suc (m + 1)) s) v₁ (l₁ ++ x ∷ [])
   search-at {c} {k} {x} {m} {s} {v} {l} {v₁} {l₁} e d f h r =
       let g : Dfs (needs G c) (start G k ∷ v) l (needs G c (start G k)) v₁ l₁ m → ¬ (start G k ∈ v) → Listing c (suc k) (transitions G (suc (m + 1)) s) v₁ (l₁ ++ start G k ∷ []) =
-      λ d′ f′. listing-Between r (one-search G k (needs G c) [] d′ s (r .place) h f′ (listing-idle r)) in
+      λ d′ f′. listing-next r (one-search G k (needs G c) [] d′ s (r .place) h f′ (listing-idle r)) in
       (subst (λ (u : ℕ). Dfs (needs G c) (u ∷ v) l (needs G c u) v₁ l₁ m → ¬ (u ∈ v) → Listing c (suc k) (transitions G (suc (m + 1)) s) v₁ (l₁ ++ u ∷ [])) e g) d f
 
   list-searches : {c : ℕ → Bool} {v l xs v′ l′ : List ℕ} {b : ℕ} → Dfs (needs G c) v l xs v′ l′ b → (k : ℕ) (s : State) → Listing c k s v l →

@@ -3,53 +3,19 @@ use Rattle.dependency.proofs.Steps.{searches-few, step-start}
 use borrow.Author.Needs.{needs}
 use Rattle.dependency.proofs.ads.between.Statement.{statement}
 use Rattle.dependency.proofs.ads.between.Tie as tie
-use Rattle.dependency.proofs.ads.between.Reads as reads
-use Rattle.dependency.proofs.ads.between.Lts as lts
-use Rattle.dependency.proofs.ads.stamp_of.Reads as stamp-of-reads
-use Rattle.dependency.proofs.ads.start_of.Reads as start-of-reads
-use Rattle.dependency.proofs.marks.begin.Reads as begin-reads
 
--- src/ads.rt:215:13
 add-m : tie.Need-add-m
 add-m c = let h = searches-few (c .before .before .before .before .before .before .before .before .pre .0 .0) (c .before .before .before .before .before .before .before .before .pre .0 .1) (c .before .before .before .before .before .before .before .before .pre .0 .2) (c .before .before .before .before .before .before .before .before .pre .0 .3) in search needs
 
--- src/ads.rt:216:9
-start-of-requires : tie.Need-start-of-requires
-start-of-requires c κs = search needs
-
--- src/ads.rt:217:9
 stamp-of-requires : tie.Need-stamp-of-requires
 stamp-of-requires c κs = searches-few (c .before .before .before .before .before .before .before .before .before .pre .0 .0) (c .before .before .before .before .before .before .before .before .before .pre .0 .1) (c .before .before .before .before .before .before .before .before .before .pre .0 .2) (c .before .before .before .before .before .before .before .before .before .pre .0 .3)
 
--- src/ads.rt:218:5
 begin-requires : tie.Need-begin-requires
 begin-requires c κs = let h = searches-few (c .before .before .before .before .before .before .before .before .before .before .before .before .before .pre .0 .0) (c .before .before .before .before .before .before .before .before .before .before .before .before .before .pre .0 .1) (c .before .before .before .before .before .before .before .before .before .before .before .before .before .pre .0 .2) (c .before .before .before .before .before .before .before .before .before .before .before .before .before .pre .0 .3) in let k = c .before .before .before .before .start-of .ensures .1 (c .before .before .before .before .before .before .before .before .before .before .before .before .before .pre .0 .4) in let r = c .before .before .before .before .before .before .before .before .before .before .before .before .before .pre .1 in (h .1, search needs, search needs, search needs)
 
--- src/ads.rt:209:1
-same-length : tie.Need-same-length
-same-length c = search needs
-
--- src/ads.rt:209:1
-same-length-2 : tie.Need-same-length-2
-same-length-2 c = search needs
-
--- src/ads.rt:209:1
-same-length-3 : tie.Need-same-length-3
-same-length-3 c = search needs
-
--- src/ads.rt:209:1
 returns : tie.Need-returns
 returns c = (λ b d ta fl ls e. c .before .before .before .before .before .before .begin .ensures .0 _ ta fl ls (step-start (c .before .before .before .before .before .before .before .before .before .before .before .before .before .before .before .before .before .before .before .before .pre .0 .0) (c .before .before .before .before .before .before .before .before .before .before .before .before .before .before .before .before .before .before .before .before .pre .0 .1) b d (now (c .before .before .before .before .before .before .before .before .before .before .before .before .before .before .before .before .before .before .before .before .args .roots)) e (c .before .before .before .before .before .before .before .before .before .before .before .before .before .before .before .before .before .before .before .before .pre .0 .2) (c .before .before .before .before .before .before .before .before .before .before .before .start-of .ensures .0 b d e) (c .before .before .before .before .before .before .before .before .before .before .stamp-of .ensures)), c .before .before .before .before .before .before .begin .ensures .1)
 
 pub between-spec : {M : Type 1} → statement M
-between-spec =
-    tie.close
-    (tie.spec
-    add-m
-    start-of-requires
-    stamp-of-requires
-    begin-requires
-    same-length
-    same-length-2
-    same-length-3
-    returns)
+between-spec = tie.close (tie.spec
+    add-m (λ c κs. search needs) stamp-of-requires begin-requires (λ c. search needs) (λ c. search needs) (λ c. search needs) returns)

@@ -4,46 +4,16 @@ use Rattle.dependency.proofs.Numbering.{degree-flags, degree-circular, 
 use borrow.Author.Needs.{needs}
 use Rattle.dependency.proofs.ads.degree.Statement.{statement}
 use Rattle.dependency.proofs.ads.degree.Tie as tie
-use Rattle.dependency.proofs.ads.degree.Reads as reads
-use Rattle.dependency.proofs.ads.degree.Lts as lts
-use Rattle.dependency.proofs.ads.led_count.Reads as led-count-reads
 
--- src/ads.rt:91:9
-led-count-requires : tie.Need-led-count-requires
-led-count-requires c κs = search needs
-
--- src/ads.rt:91:9
 returns : tie.Need-returns
 returns c = (λ b d e. degree-flags (pairGraph (now (c .before .before .before .before .before .before .args .v)) b (now (c .before .before .before .before .before .before .args .w)) d) (c .before .before .before .before .before .before .args .m) (c .before .before .before .before .before .before .args .k) (c .before .before .before .before .before .before .args .x) (now (c .before .before .before .before .before .before .args .target)) (now (c .before .before .before .before .before .before .args .flag)) e (c .before .if1 .taken) (c .led-count .ensures .0 b d), c .led-count .ensures .1)
 
--- src/ads.rt:93:8
-mul-if2 : tie.Need-mul-if2
-mul-if2 c = search needs
-
--- src/ads.rt:93:8
-shared-slice-read-if2 : tie.Need-shared-slice-read-if2
-shared-slice-read-if2 c = search needs
-
--- src/ads.rt:94:9
 returns-2 : tie.Need-returns-2
 returns-2 c = (λ b d e. degree-circular (pairGraph (now (c .before .before .before .before .before .before .before .args .v)) b (now (c .before .before .before .before .before .before .before .args .w)) d) (c .before .before .before .before .before .before .before .args .m) (c .before .before .before .before .before .before .before .args .k) (c .before .before .before .before .before .before .before .args .x) (now (c .before .before .before .before .before .before .before .args .target)) (now (c .before .before .before .before .before .before .before .args .flag)) e (search needs) (c .if2 .taken), search needs)
 
--- src/ads.rt:96:5
-led-count-requires-2 : tie.Need-led-count-requires-2
-led-count-requires-2 c κs = search needs
-
--- src/ads.rt:86:1
 returns-3 : tie.Need-returns-3
 returns-3 c = (λ b d e. degree-lists (pairGraph (now (c .before .before .before .before .before .before .before .before .args .v)) b (now (c .before .before .before .before .before .before .before .before .args .w)) d) (c .before .before .before .before .before .before .before .before .args .m) (c .before .before .before .before .before .before .before .before .args .k) (c .before .before .before .before .before .before .before .before .args .x) (now (c .before .before .before .before .before .before .before .before .args .target)) (now (c .before .before .before .before .before .before .before .before .args .flag)) e (search needs) (c .before .if2 .left) (c .led-count2 .ensures .0 b d), c .led-count2 .ensures .1)
 
 pub degree-spec : {M : Type 1} → statement M
-degree-spec =
-    tie.close
-    (tie.spec
-    led-count-requires
-    returns
-    mul-if2
-    shared-slice-read-if2
-    returns-2
-    led-count-requires-2
-    returns-3)
+degree-spec = tie.close (tie.spec
+    (λ c κs. search needs) returns (λ c. search needs) (λ c. search needs) returns-2 (λ c κs. search needs) returns-3)

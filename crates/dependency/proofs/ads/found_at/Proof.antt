@@ -3,25 +3,19 @@ use borrow.Author.Needs.{needs}
 use Rattle.dependency.proofs.Numbering.{stands-first, stands-second, found-first, found-second}
 use Rattle.dependency.proofs.ads.found_at.Statement.{statement}
 use Rattle.dependency.proofs.ads.found_at.Tie as tie
-use Rattle.dependency.proofs.ads.found_at.Reads as reads
-use Rattle.dependency.proofs.ads.found_at.Lts as lts
-use Rattle.dependency.proofs.ads.found_from.Reads as found-from-reads
 
--- src/ads.rt:187:9
 found-from-requires : tie.Need-found-from-requires
 found-from-requires c κs = (c .before .before .before .before .before .pre .0, c .before .before .before .before .before .pre .1, stands-first (now (c .before .before .before .before .before .args .v)) (now (c .before .before .before .before .before .args .w)) (c .before .before .before .before .before .args .x) (c .before .before .before .before .before .pre .2) (c .if1 .taken))
 
--- src/ads.rt:187:9
 returns : tie.Need-returns
 returns c = found-first (now (c .before .before .before .before .before .before .args .v)) (now (c .before .before .before .before .before .before .args .b)) (now (c .before .before .before .before .before .before .args .w)) (now (c .before .before .before .before .before .before .args .c)) (c .before .before .before .before .before .before .args .x) (c .before .before .before .before .before .before .pre .2) (c .before .if1 .taken) (c .found-from .ensures)
 
--- src/ads.rt:189:5
 found-from-requires-2 : tie.Need-found-from-requires-2
 found-from-requires-2 c κs = (c .before .before .before .before .before .pre .1, c .before .before .before .before .before .pre .0, stands-second (now (c .before .before .before .before .before .args .v)) (now (c .before .before .before .before .before .args .w)) (c .before .before .before .before .before .args .x) (c .before .before .before .before .before .pre .2) (search needs))
 
--- src/ads.rt:182:1
 returns-2 : tie.Need-returns-2
 returns-2 c = found-second (now (c .before .before .before .before .before .before .args .v)) (now (c .before .before .before .before .before .before .args .b)) (now (c .before .before .before .before .before .before .args .w)) (now (c .before .before .before .before .before .before .args .c)) (c .before .before .before .before .before .before .args .x) (c .before .before .before .before .before .before .pre .2) (search needs) (c .found-from2 .ensures)
 
 pub found-at-spec : {M : Type 1} → statement M
-found-at-spec = tie.close (tie.spec found-from-requires returns found-from-requires-2 returns-2)
+found-at-spec = tie.close (tie.spec
+    found-from-requires returns found-from-requires-2 returns-2)

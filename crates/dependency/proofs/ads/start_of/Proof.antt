@@ -4,51 +4,25 @@ use Rattle.dependency.proofs.Numbering.{definitions-fit, root-fits, sta
 use borrow.Author.Needs.{needs}
 use Rattle.dependency.proofs.ads.start_of.Statement.{statement}
 use Rattle.dependency.proofs.ads.start_of.Tie as tie
-use Rattle.dependency.proofs.ads.start_of.Reads as reads
-use Rattle.dependency.proofs.ads.start_of.Lts as lts
-use Rattle.dependency.proofs.stored.root.Reads as root-reads
 
--- src/ads.rt:106:9
 root-requires : tie.Need-root-requires
 root-requires c κs = let h = definitions-fit (c .before .before .before .before .pre .0) in (search needs, c .before .before .before .before .pre .0 .formed .words-room)
 
--- src/ads.rt:106:9
 returns : tie.Need-returns
 returns c = (λ b d e. start-first (now (c .before .before .before .before .before .args .v)) b (now (c .before .before .before .before .before .args .w)) d (c .before .before .before .before .before .pre .0) (c .before .before .before .before .before .pre .1) (c .before .before .before .before .before .args .k) (c .before .if1 .taken) (c .root .ensures), λ h. let k = root-fits (c .before .before .before .before .before .pre .0) _ (c .before .if1 .taken) (c .root .ensures) in search needs)
 
--- src/ads.rt:110:24
 root-requires-2 : tie.Need-root-requires-2
 root-requires-2 c κs = let h = definitions-fit (c .before .before .before .before .before .before .pre .1) in (search needs, c .before .before .before .before .before .before .pre .1 .formed .words-room)
 
--- src/ads.rt:110:16
 add-result : tie.Need-add-result
 add-result c = let h = root-fits (c .before .before .before .before .before .before .before .pre .1) _ (c .before .if2 .taken) (c .root2 .ensures) in search needs
 
--- src/ads.rt:110:9
 returns-2 : tie.Need-returns-2
 returns-2 c = (λ b d e. start-second (now (c .before .before .before .before .before .before .before .args .v)) b (now (c .before .before .before .before .before .before .before .args .w)) d (c .before .before .before .before .before .before .before .pre .0) (c .before .before .before .before .before .before .before .pre .1) (c .before .before .before .before .before .before .before .args .k) (search needs) refl (c .before .if2 .taken) (c .root2 .ensures), λ h. let k = root-fits (c .before .before .before .before .before .before .before .pre .1) _ (c .before .if2 .taken) (c .root2 .ensures) in search needs)
 
--- src/ads.rt:113:5
-mul-result : tie.Need-mul-result
-mul-result c = search needs
-
--- src/ads.rt:113:5
-shared-slice-read-result : tie.Need-shared-slice-read-result
-shared-slice-read-result c = search needs
-
--- src/ads.rt:100:1
 returns-3 : tie.Need-returns-3
 returns-3 c = (λ b d e. start-root (now (c .before .before .before .before .before .before .before .before .args .v)) b (now (c .before .before .before .before .before .before .before .before .args .w)) d (c .before .before .before .before .before .before .before .before .pre .0) (c .before .before .before .before .before .before .before .before .pre .1) (c .before .before .before .before .before .before .before .before .args .k) (now (c .before .before .before .before .before .before .before .before .args .roots)) e (search needs) refl, λ h. h _ (search needs))
 
 pub start-of-spec : {M : Type 1} → statement M
-start-of-spec =
-    tie.close
-    (tie.spec
-    root-requires
-    returns
-    root-requires-2
-    add-result
-    returns-2
-    mul-result
-    shared-slice-read-result
-    returns-3)
+start-of-spec = tie.close (tie.spec
+    root-requires returns root-requires-2 add-result returns-2 (λ c. search needs) (λ c. search needs) returns-3)

@@ -2,18 +2,10 @@ use Rattle.dependency.proofs.Rule.{back-none, back-some}
 use borrow.Author.Needs.{needs}
 use Rattle.dependency.proofs.marks.back_from.Statement.{statement}
 use Rattle.dependency.proofs.marks.back_from.Tie as tie
-use Rattle.dependency.proofs.marks.back_from.Reads as reads
-use Rattle.dependency.proofs.marks.back_from.Lts as lts
 
--- src/marks.rt:99:31
-
--- src/marks.rt:99:9
 returns : tie.Need-returns
 returns c = back-none _ _ (c .if1 .taken)
 
--- src/marks.rt:101:22
-
--- src/marks.rt:94:1
 returns-2 : tie.Need-returns-2
 returns-2 c = back-some _ _ (c .if1 .left)
 

@@ -3,29 +3,10 @@ use Rattle.dependency.proofs.Rule.{begin-omit, begin-enter}
 use borrow.Author.Needs.{needs}
 use Rattle.dependency.proofs.marks.begin.Statement.{statement}
 use Rattle.dependency.proofs.marks.begin.Tie as tie
-use Rattle.dependency.proofs.marks.begin.Reads as reads
-use Rattle.dependency.proofs.marks.begin.Lts as lts
-use Rattle.dependency.proofs.marks.mark.Reads as mark-reads
 
--- src/marks.rt:60:8
-
--- src/marks.rt:60:8
-
--- src/marks.rt:61:49
-
--- src/marks.rt:61:9
 returns : tie.Need-returns
 returns c = (λ G ta fl ls a. begin-omit a _ ta _ _ _ fl ls (c .if1 .taken), refl)
 
--- src/marks.rt:63:5
-
--- src/marks.rt:56:1
-
--- src/marks.rt:56:1
-
--- src/marks.rt:56:1
-
--- src/marks.rt:56:1
 returns-2 : tie.Need-returns-2
 returns-2 c = (λ G ta fl ls a. let e = c .before .before .before .before .before .before .mark .ensures in let p = c .before .before .before .before .before .before .before .before .before .before .before .before .before .before .before .pre in rw (e .0, e .1, e .2) (begin-enter a _ ta _ _ _ fl ls (p .1) (p .2) (p .3) (c .before .before .before .before .before .before .before .before .before .before .if1 .left)), refl)
 

@@ -3,36 +3,10 @@ use Rattle.dependency.proofs.Rule.{follow-pass, follow-enter}
 use borrow.Author.Needs.{needs}
 use Rattle.dependency.proofs.marks.follow.Statement.{statement}
 use Rattle.dependency.proofs.marks.follow.Tie as tie
-use Rattle.dependency.proofs.marks.follow.Reads as reads
-use Rattle.dependency.proofs.marks.follow.Lts as lts
-use Rattle.dependency.proofs.marks.mark.Reads as mark-reads
-use Rattle.dependency.proofs.marks.pass.Reads as pass-reads
 
--- src/marks.rt:85:8
-
--- src/marks.rt:85:8
-
--- src/marks.rt:86:9
-
--- src/marks.rt:87:9
-
--- src/marks.rt:87:9
-
--- src/marks.rt:87:9
 returns : tie.Need-returns
 returns c = (λ G ta ls a. let e = c .before .before .before .before .pass .ensures in let p = c .before .before .before .before .before .before .before .before .before .before .before .before .before .pre in rw (e .0, e .1) (follow-pass a _ _ _ ls (p .0 .1) (p .0 .2) (c .before .before .before .before .before .before .before .if1 .taken)), refl)
 
--- src/marks.rt:89:39
-
--- src/marks.rt:89:5
-
--- src/marks.rt:68:1
-
--- src/marks.rt:68:1
-
--- src/marks.rt:68:1
-
--- src/marks.rt:68:1
 returns-2 : tie.Need-returns-2
 returns-2 c = (λ G ta ls a. let e = c .before .before .before .before .before .before .mark .ensures in let p = c .before .before .before .before .before .before .before .before .before .before .before .before .before .before .before .before .pre in rw (e .0, e .1, e .2) (follow-enter a _ _ _ ls (p .1 .0) (p .1 .1) (p .1 .2) (c .before .before .before .before .before .before .before .before .before .before .if1 .left)), refl)
 

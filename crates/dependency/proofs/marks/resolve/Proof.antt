@@ -3,24 +3,10 @@ use Rattle.dependency.proofs.Rule.{resolve-more, resolve-last}
 use borrow.Author.Needs.{needs}
 use Rattle.dependency.proofs.marks.resolve.Statement.{statement}
 use Rattle.dependency.proofs.marks.resolve.Tie as tie
-use Rattle.dependency.proofs.marks.resolve.Reads as reads
-use Rattle.dependency.proofs.marks.resolve.Lts as lts
 
--- src/marks.rt:47:5
-
--- src/marks.rt:47:5
-
--- src/marks.rt:48:13
-
--- src/marks.rt:50:9
-
--- src/marks.rt:50:9
 returns : tie.Need-returns
 returns c = (λ G st fr fo fl ls a. resolve-more a _ _ st fr fo fl ls (search needs) refl (c .if1 .taken), refl)
 
--- src/marks.rt:43:1
-
--- src/marks.rt:43:1
 returns-2 : tie.Need-returns-2
 returns-2 c = (λ G st fr fo fl ls a. resolve-last a _ _ st fr fo fl ls (search needs) refl (search needs), refl)
 

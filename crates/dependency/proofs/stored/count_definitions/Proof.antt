@@ -1,14 +1,10 @@
 use borrow.Author.Needs.{needs}
-use native.Mathlib.Omega.{arith}
 use mathlib.Core.Path.{sym, _∙_}
 use Prim.Native.Nat.{_-_}
 use Rattle.dependency.specs.Stored.{lengthAt}
 use Rattle.dependency.proofs.Reading.{Counted, counted-first, counted-next, counted-stop, counted-end, definitions-are}
 use Rattle.dependency.proofs.stored.count_definitions.Statement.{statement}
 use Rattle.dependency.proofs.stored.count_definitions.Tie as tie
-use Rattle.dependency.proofs.stored.count_definitions.Reads as reads
-use Rattle.dependency.proofs.stored.count_definitions.Lts as lts
-use Rattle.dependency.proofs.stored.name_length.Reads as name-length-reads
 
 abbrev Inv-loop : tie.InvT-loop
 Inv-loop words j₀ j = Counted (lengthAt words) 256 j
@@ -16,25 +12,15 @@ Inv-loop words j₀ j = Counted (lengthAt words) 256 j
 abbrev μ-loop : tie.MeasureT-loop
 μ-loop words j₀ j = 256 - j
 
--- src/stored.rt:106:5
 loop-holds : tie.Need-loop-holds Inv-loop μ-loop
 loop-holds c = counted-first _ _
 
--- src/stored.rt:107:12
-
--- src/stored.rt:108:13
 returns : tie.Need-returns Inv-loop μ-loop
 returns c = definitions-are _ (counted-stop _ _ _ (c .before .before .before .loop .inv) (c .before .before .loop-test .taken) (sym (c .before .name-length .ensures) ∙ c .if1 .taken))
 
--- src/stored.rt:110:9
-
--- src/stored.rt:106:5
-
--- src/stored.rt:106:5
 loop-again : tie.Need-loop-again Inv-loop μ-loop
 loop-again c = counted-next _ _ _ (c .before .before .before .loop .inv) (c .before .before .loop-test .taken) (λ e. c .if1 .left (c .before .name-length .ensures ∙ e))
 
--- src/stored.rt:101:1
 returns-2 : tie.Need-returns-2 Inv-loop μ-loop
 returns-2 c = definitions-are _ (counted-end _ _ _ (c .before .loop .inv) (search needs))
 

@@ -1,14 +1,10 @@
 use borrow.Author.Needs.{needs}
-use native.Mathlib.Omega.{arith}
 use mathlib.Core.Path.{sym, _∙_}
 use Prim.Native.Nat.{_-_}
 use Rattle.dependency.specs.Stored.{kindAt}
 use Rattle.dependency.proofs.Reading.{Counted, counted-first, counted-next, counted-stop, counted-end, nodes-are}
 use Rattle.dependency.proofs.stored.count_nodes.Statement.{statement}
 use Rattle.dependency.proofs.stored.count_nodes.Tie as tie
-use Rattle.dependency.proofs.stored.count_nodes.Reads as reads
-use Rattle.dependency.proofs.stored.count_nodes.Lts as lts
-use Rattle.dependency.proofs.stored.kind.Reads as kind-reads
 
 abbrev Inv-loop : tie.InvT-loop
 Inv-loop words i₀ i = Counted (kindAt words) 1024 i
@@ -16,25 +12,15 @@ Inv-loop words i₀ i = Counted (kindAt words) 1024 i
 abbrev μ-loop : tie.MeasureT-loop
 μ-loop words i₀ i = 1024 - i
 
--- src/stored.rt:92:5
 loop-holds : tie.Need-loop-holds Inv-loop μ-loop
 loop-holds c = counted-first _ _
 
--- src/stored.rt:93:12
-
--- src/stored.rt:94:13
 returns : tie.Need-returns Inv-loop μ-loop
 returns c = nodes-are _ (counted-stop _ _ _ (c .before .before .before .loop .inv) (c .before .before .loop-test .taken) (sym (c .before .kind .ensures) ∙ c .if1 .taken))
 
--- src/stored.rt:96:9
-
--- src/stored.rt:92:5
-
--- src/stored.rt:92:5
 loop-again : tie.Need-loop-again Inv-loop μ-loop
 loop-again c = counted-next _ _ _ (c .before .before .before .loop .inv) (c .before .before .loop-test .taken) (λ e. c .if1 .left (c .before .kind .ensures ∙ e))
 
--- src/stored.rt:87:1
 returns-2 : tie.Need-returns-2 Inv-loop μ-loop
 returns-2 c = nodes-are _ (counted-end _ _ _ (c .before .loop .inv) (search needs))
 

@@ -1,14 +1,8 @@
 use borrow.Author.Needs.{needs}
-use native.Mathlib.Omega.{arith}
 use Prim.Native.Nat.{_-_}
 use Rattle.dependency.proofs.Reading.{Sought, sought-first, name-small, sought-next, sought-found, sought-none, root-small}
 use Rattle.dependency.proofs.stored.find_name.Statement.{statement}
 use Rattle.dependency.proofs.stored.find_name.Tie as tie
-use Rattle.dependency.proofs.stored.find_name.Reads as reads
-use Rattle.dependency.proofs.stored.find_name.Lts as lts
-use Rattle.dependency.proofs.stored.has_name.Reads as has-name-reads
-use Rattle.dependency.proofs.stored.marked_root.Reads as marked-root-reads
-use Rattle.dependency.proofs.stored.root.Reads as root-reads
 
 abbrev Inv-loop : tie.InvT-loop
 Inv-loop words bytes d name second j₀ j = Sought words bytes name d j
@@ -16,37 +10,27 @@ Inv-loop words bytes d name second j₀ j = Sought words bytes name d j
 abbrev μ-loop : tie.MeasureT-loop
 μ-loop words bytes d name second j₀ j = d - j
 
--- src/stored.rt:166:5
 loop-holds : tie.Need-loop-holds Inv-loop μ-loop
 loop-holds c = sought-first _ _ _ _ (c .before .before .before .pre .1)
 
--- src/stored.rt:167:12
 has-name-requires : tie.Need-has-name-requires Inv-loop μ-loop
 has-name-requires c κs = (name-small _ (c .before .before .before .before .before .pre .0) (c .before .before .before .before .before .pre .1) (c .loop-test .taken), c .before .before .before .before .before .pre .0 .words-room)
 
--- src/stored.rt:168:32
 root-requires : tie.Need-root-requires Inv-loop μ-loop
 root-requires c κs = (name-small _ (c .before .before .before .before .before .before .before .pre .0) (c .before .before .before .before .before .before .before .pre .1) (c .before .before .loop-test .taken), c .before .before .before .before .before .before .before .pre .0 .words-room)
 
--- src/stored.rt:168:13
 marked-root-requires : tie.Need-marked-root-requires Inv-loop μ-loop
 marked-root-requires c κs = root-small _ (c .before .before .before .before .before .before .before .before .pre .0) (c .before .before .before .before .before .before .before .before .pre .1) (c .before .before .before .loop-test .taken) (c .root .ensures)
 
--- src/stored.rt:168:13
 returns : tie.Need-returns Inv-loop μ-loop
 returns c = sought-found _ _ _ _ (c .before .before .before .before .before .before .before .before .before .pre .1) _ (c .before .before .before .before .before .loop .inv) (c .before .before .before .before .before .before .before .before .before .args .second) _ _ (c .before .before .before .before .loop-test .taken) (c .before .before .before .has-name .ensures) (c .before .before .if1 .taken) (c .before .root .ensures) (c .marked-root .ensures)
 
--- src/stored.rt:170:9
 add-j : tie.Need-add-j Inv-loop μ-loop
 add-j c = let h = name-small _ (c .before .before .before .before .before .before .before .pre .0) (c .before .before .before .before .before .before .before .pre .1) (c .before .before .loop-test .taken) in search needs
 
--- src/stored.rt:166:5
-
--- src/stored.rt:166:5
 loop-again : tie.Need-loop-again Inv-loop μ-loop
 loop-again c = sought-next _ _ _ _ (c .before .before .before .before .before .before .before .pre .1) _ (c .before .before .before .loop .inv) (c .before .before .loop-test .taken) (c .before .has-name .ensures) (c .if1 .left)
 
--- src/stored.rt:161:1
 returns-2 : tie.Need-returns-2 Inv-loop μ-loop
 returns-2 c = sought-none _ _ _ _ (c .before .before .before .before .before .pre .1) _ (c .before .loop .inv) (c .before .before .before .before .before .args .second) (search needs)
 

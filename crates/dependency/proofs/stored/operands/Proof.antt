@@ -2,26 +2,19 @@ use borrow.Author.Needs.{needs}
 use Rattle.dependency.proofs.Reading.{arity-none, arity-unary, arity-conditional, arity-binary, arity-beyond}
 use Rattle.dependency.proofs.stored.operands.Statement.{statement}
 use Rattle.dependency.proofs.stored.operands.Tie as tie
-use Rattle.dependency.proofs.stored.operands.Reads as reads
-use Rattle.dependency.proofs.stored.operands.Lts as lts
 
--- src/stored.rt:64:9
 returns : tie.Need-returns
 returns c = arity-none _ (c .if1 .taken)
 
--- src/stored.rt:67:9
 returns-2 : tie.Need-returns-2
 returns-2 c = arity-unary _ (search needs) (search needs)
 
--- src/stored.rt:70:9
 returns-3 : tie.Need-returns-3
 returns-3 c = arity-conditional _ (c .if3 .taken)
 
--- src/stored.rt:73:9
 returns-4 : tie.Need-returns-4
 returns-4 c = arity-binary _ (search needs) (c .before .if3 .left) (search needs)
 
--- src/stored.rt:60:1
 returns-5 : tie.Need-returns-5
 returns-5 c = arity-beyond _ (search needs)
 

@@ -1,5 +1,5 @@
 use lib.Seq.{drop-length}
-use lib.ListN.{length, take, drop, drop-of-length-le, length-drop}
+use lib.ListN.{length, drop, drop-of-length-le, length-drop}
 use denote.Ref.{now}
 use Prim.Native.Nat.{_-_}
 use native.Mathlib.Omega.{arith}
@@ -8,40 +8,13 @@ use Rattle.dependency.proofs.Reading.{cut-none, cut-all}
 use borrow.Author.Needs.{needs}
 use Rattle.dependency.proofs.stored.part.Statement.{statement}
 use Rattle.dependency.proofs.stored.part.Tie as tie
-use Rattle.dependency.proofs.stored.part.Reads as reads
-use Rattle.dependency.proofs.stored.part.Lts as lts
 
--- src/stored.rt:120:16
-
--- src/stored.rt:120:16
-
--- src/stored.rt:120:16
-
--- src/stored.rt:120:9
 returns : tie.Need-returns
 returns c = let m = now (c .before .before .args .bytes) in rw (drop-length m, drop-of-length-le m (c .before .if1 .taken)) (cut-none (length m - length m) (c .before .before .args .len))
 
--- src/stored.rt:122:15
-
--- src/stored.rt:123:19
-
--- src/stored.rt:124:16
-
--- src/stored.rt:124:16
-
--- src/stored.rt:124:16
-
--- src/stored.rt:124:9
 returns-2 : tie.Need-returns-2
 returns-2 c = rw (add-sub-cancel-left (c .before .before .before .args .at) (c .before .before .before .args .len))
 
--- src/stored.rt:126:5
-
--- src/stored.rt:126:5
-
--- src/stored.rt:126:5
-
--- src/stored.rt:116:1
 returns-3 : tie.Need-returns-3
 returns-3 c = let m = now (c .before .before .before .args .bytes) in let a = c .before .before .before .args .at in cut-all (drop a m) (length m - a) (c .before .before .before .args .len) (length-drop a m) (let h = c .before .if2 .left in omega arith)
 
