@@ -1,6 +1,3 @@
-pub mod Rule
-pub mod Reading
-pub mod Numbering
 pub mod Steps
-pub mod Roots
+pub mod Places
 pub mod Turns

@@ -9,26 +9,19 @@ use lib.ListN.{length, getD}
 use lib.Dec.{eqb, ltb}
 use Rattle.graph.specs.Graph.{Graph, Node, Sound}
 use Rattle.graph.specs.Transition.{flags, stampOf, searches, start, led, goes, marked}
-use Rattle.dependency.specs.Stored.{nodeCount, definitionCount}
-use Rattle.dependency.specs.Pair.{pairGraph, Formed, Measured, Stands}
-use Rattle.dependency.specs.Laws.Soundness.{pair-sound}
-use Rattle.dependency.specs.Memory.{numbers, raised, AtNode, AtStart, AtLink, AtLast, Roomy, Grows}
-use Rattle.dependency.proofs.Numbering.{stands-small, definitions-fit, sources-are, stamp-is, goes-in, goes-next}
-use Rattle.dependency.proofs.Rule.{grows-none}
-
-pub measured-self : {w : List ℕ} {n d : ℕ} → Measured w n d → Measured w (nodeCount w) d
-measured-self p = record { formed = p .formed; nodes-are = refl; definitions-are = p .definitions-are }
+use Rattle.links.specs.Stored.{nodeCount, definitionCount}
+use Rattle.links.specs.Pair.{pairGraph, Formed, Measured, Stands}
+use Rattle.links.specs.Laws.Soundness.{pair-sound}
+use Rattle.graph.specs.Members.{numbers, raised}
+use Rattle.marks.specs.Memory.{AtNode, AtStart, AtLink, AtLast, Roomy, Grows}
+use Rattle.links.specs.Laws.Numbering.{pair-size, stands-small, definitions-fit, sources-are, stamp-is, goes-in, goes-next}
 
 pub kept-grows : {len len′ : ℕ} (ls : List ℕ) → len′ ≡ len → Grows len len′ ls ls
-kept-grows {len} {len′} ls e = subst (λ (u : ℕ). Grows len u ls ls) (sym e) (grows-none len ls)
+kept-grows ls e = record { longer = omega arith; fits = λ h. omega arith; behind = λ i h. refl }
 
 -- a node's place in a slice of marks
 pub stands-in : (v w : List ℕ) (x : ℕ) (l : List ℕ) → Stands v w x → 2048 ≤ length l → x < length l
 stands-in v w x l s h = let a = stands-small v w x s in omega arith
-
-pub pair-size : (v b w c : List ℕ) → pairGraph v b w c .size ≡ nodeCount v + nodeCount w
-unfolding pairGraph
-pair-size v b w c = refl
 
 module _ {v w : List ℕ} {n d n′ d′ : ℕ} (p : Measured v n d) (q : Measured w n′ d′) where
   pub searches-few : {k r : ℕ} → k < d + d′ + r → r ≤ 4 → (d + d′ < 4096) × (k < 4096)

@@ -18,14 +18,16 @@ use Rattle.graph.specs.Laws.Traversal.{Ends, traverse}
 use Rattle.graph.specs.Laws.Progress.{PlaceOK, Valid, valid-transitions, valid-first, transitions-suc, total, before-end, over-at, room-at, taken, pending, Awake, awake-next}
 use Rattle.graph.specs.declared.Place.{Place}
 use Rattle.graph.specs.declared.Place.the-variants.{Resolving, Between, Inside}
-use Rattle.dependency.specs.Stored.{nodeCount, definitionCount}
-use Rattle.dependency.specs.Pair.{pairGraph, Formed, Measured, Stands}
-use Rattle.dependency.specs.Laws.Counting.{nodes-few}
-use Rattle.dependency.specs.Laws.Soundness.{pair-sound}
-use Rattle.dependency.specs.Memory.{numbers, raised, view, endedAt, marksRoom, PlaceFits, Clear, Roomy, Cleared, Ready, Grows, Traversed}
-use Rattle.dependency.proofs.Numbering.{stands-small, sources-are, definitions-fit}
-use Rattle.dependency.proofs.Rule.{state-eq}
-use Rattle.dependency.proofs.Steps.{pair-size}
+use Rattle.links.specs.Stored.{nodeCount, definitionCount}
+use Rattle.links.specs.Pair.{pairGraph, Formed, Measured, Stands}
+use Rattle.links.specs.Laws.Counting.{nodes-few}
+use Rattle.links.specs.Laws.Soundness.{pair-sound}
+use Rattle.graph.specs.Members.{numbers, raised}
+use Rattle.marks.specs.Memory.{view, marksRoom, Clear, Roomy, Cleared, Grows}
+use Rattle.dependency.specs.Traversal.{endedAt, PlaceFits, Ready, Traversed}
+use Rattle.links.specs.Laws.Numbering.{stands-small, sources-are, definitions-fit}
+use Rattle.graph.specs.Laws.Transitions.{state-eq}
+use Rattle.links.specs.Laws.Numbering.{pair-size}
 
 -- what holds before each transition, of two well-formed ads
 pub record Going (v b w c : List ℕ) (f : Formed v) (g : Formed w) (count : ℕ) (pl : Place) (len : ℕ) (ta st fr fo fl ls : List ℕ) : Type 0 where

@@ -1,4 +1,1 @@
-pub mod Stored
-pub mod Pair
-pub mod Memory
-pub mod Laws
+pub mod Traversal

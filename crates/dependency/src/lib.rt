@@ -1,10 +1,8 @@
-// Dependencies: what leads to what in two stored ads, and the traversal that finds the circular references and the list.
-mod ads;
-mod marks;
-mod stored;
+// Dependencies: the traversal of two stored ads, which finds the circular references and the list.
+mod rule;
 
-use ads::Counts;
 use graph::Place;
+use links::Counts;
 use marks::Position;
 ghost use mathlib.Core.Path.{_≡_};
 ghost use mathlib.Core.Bool.{cond};
@@ -12,8 +10,8 @@ ghost use Prim.Native.Nat.{_+_, _<_, _≤_};
 ghost use lib.ListN.{length};
 ghost use lib.Dec.{ltb};
 ghost use Rattle.graph.specs.declared.Place.the-variants.{Resolving, Between};
-ghost use Rattle.dependency.specs.Pair.{pairGraph, Measured};
-ghost use Rattle.dependency.specs.Memory.{lookupOf, endedAt, Ready, Traversed};
+ghost use Rattle.links.specs.Pair.{pairGraph, Measured};
+ghost use Rattle.dependency.specs.Traversal.{lookupOf, endedAt, Ready, Traversed};
 
 // What is found of a reference: its definition's root, by number; no definition; or a cycle back to the reference itself.
 pub enum Lookup {
@@ -100,7 +98,7 @@ fn run(
                 length: len,
             };
         }
-        s = ads::transition(
+        s = rule::transition(
             v,
             b,
             p,
@@ -137,10 +135,10 @@ pub fn traverse(
     requires { ⌜ Ready (now v) (now w) (now target) (now stamp) (now from) (now followed) (now flag) (now list) ⌝ }
     ensures { λ r. ⌜ Traversed (pairGraph (now (v .entry)) (now (b .entry)) (now (w .entry)) (now (c .entry))) (r .count) (r .length) (now (target .exit)) (now (stamp .exit)) (now (from .exit)) (now (followed .exit)) (now (flag .exit)) (now (list .exit)) ⌝ }
 {
-    let p = ads::measure(v);
-    let q = ads::measure(w);
+    let p = links::measure(v);
+    let q = links::measure(w);
     let mut room = [0usize; 4];
-    let n = ads::find_roots(v, b, p, w, c, q, &mut room);
+    let n = links::find_roots(v, b, p, w, c, q, &mut room);
     let roots = &room[..n];
     run(
         v,

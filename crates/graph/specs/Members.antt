@@ -3,7 +3,7 @@ use mathlib.Core.Path.{_≡_}
 use mathlib.Core.Bool.{Bool, cond}
 use mathlib.Core.List.{List, [], _∷_}
 use Prim.Native.Nat.{ℕ, _≤_}
-use lib.ListN.{length}
+use lib.ListN.{length, getD}
 use lib.Dec.{eqb}
 
 infix 40 _∈_
@@ -28,3 +28,10 @@ module _ {A : Type 0} where
   -- f, with a at x
   unfoldable pub put : (ℕ → A) → ℕ → A → ℕ → A
   put f x a y = cond (eqb x y) a (f y)
+
+-- a list of numbers by index, 0 beyond its end; and as flags, set where it holds 1
+abbrev pub numbers : List ℕ → ℕ → ℕ
+numbers l x = getD l x 0
+
+abbrev pub raised : List ℕ → ℕ → Bool
+raised l x = eqb (getD l x 0) 1

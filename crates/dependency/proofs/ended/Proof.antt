@@ -1,5 +1,5 @@
 use Rattle.graph.specs.declared.Place.{Place}
-use Rattle.dependency.specs.Memory.{endedAt}
+use Rattle.dependency.specs.Traversal.{endedAt}
 use mathlib.Core.Path.{sym, ap}
 use borrow.Author.Needs.{needs}
 use Rattle.dependency.proofs.ended.Statement.{statement}

@@ -1,4 +1,4 @@
-use Rattle.dependency.proofs.Roots.{place-some, place-none}
+use Rattle.dependency.proofs.Places.{place-some, place-none}
 use Rattle.dependency.proofs.first_place.Statement.{statement}
 use Rattle.dependency.proofs.first_place.Tie as tie
 

@@ -1,4 +1,4 @@
-use Rattle.dependency.proofs.Reading.{lookup-circular, lookup-absent, lookup-found}
+use Rattle.dependency.proofs.Places.{lookup-circular, lookup-absent, lookup-found}
 use borrow.Author.Needs.{needs}
 use Rattle.dependency.proofs.resolved.Statement.{statement}
 use Rattle.dependency.proofs.resolved.Tie as tie

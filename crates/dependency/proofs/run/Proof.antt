@@ -3,9 +3,9 @@ use denote.Ref.{now}
 use native.Mathlib.Omega.{arith}
 use Prim.Native.Nat.{_-_, _*_}
 use mathlib.Core.Path.{refl}
-use Rattle.dependency.proofs.Roots.{roots-few}
-use Rattle.dependency.proofs.Numbering.{definitions-fit, nodes-fit}
-use Rattle.dependency.specs.Pair.{pairGraph}
+use Rattle.links.specs.Laws.Roots.{roots-few}
+use Rattle.links.specs.Laws.Numbering.{definitions-fit, nodes-fit}
+use Rattle.links.specs.Pair.{pairGraph}
 use Rattle.dependency.proofs.Turns.{Turn, turn-first, turn-end, turn-fits, turn-small, turn-count, turn-next}
 use Rattle.dependency.proofs.run.Statement.{statement}
 use Rattle.dependency.proofs.run.Tie as tie

@@ -54,3 +54,10 @@ module _ (G : Graph) (s : State) (k : ℕ) where
   pub transition-resolve : s .place ≡ Resolving k → transition G s ≡ resolve G s k (G .nth k)
   unfolding transition transitionAt
   transition-resolve p = ap (transitionAt G s) p
+
+-- ---- two states with the same parts are one
+
+pub state-eq : {p p′ : Place} {a a′ b b′ c c′ d d′ : ℕ → ℕ} {f f′ : ℕ → Bool} {l l′ : List ℕ} → p ≡ p′ → a ≡ a′ → b ≡ b′ → c ≡ c′ → d ≡ d′ → f ≡ f′ → l ≡ l′ →
+    _≡_ {A = State} (record { place = p; target = a; stamp = b; from = c; followed = d; flag = f; list = l })
+    (record { place = p′; target = a′; stamp = b′; from = c′; followed = d′; flag = f′; list = l′ })
+state-eq e₁ e₂ e₃ e₄ e₅ e₆ e₇ = λ i. record { place = e₁ i; target = e₂ i; stamp = e₃ i; from = e₄ i; followed = e₅ i; flag = e₆ i; list = e₇ i }

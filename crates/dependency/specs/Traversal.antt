@@ -1,0 +1,62 @@
+-- What the traversal asks and comes to, and what is found of a reference when it is over. Assumes nothing.
+use mathlib.Core.Path.{_≡_}
+use mathlib.Core.Bool.{Bool, true, false, cond}
+use mathlib.Core.List.{List, [], _∷_, _++_, map}
+use Prim.Native.Nat.{ℕ, zero, suc, _+_, _-_, _*_, _≤_, _<_}
+use lib.ListN.{length, getD, replicate}
+use lib.Dec.{leb}
+use Rattle.graph.specs.Members.{raised}
+use Rattle.graph.specs.Graph.{Graph, Flags, IsList}
+use Rattle.graph.specs.Transition.{searches, unmarked, transitions, first, Ended}
+use Rattle.graph.specs.declared.Place.{Place}
+use Rattle.graph.specs.declared.Place.the-variants.{Resolving, Between, Inside}
+use Rattle.links.specs.Stored.{nodeCount}
+use Rattle.links.specs.Pair.{Formed, Stands}
+use Rattle.marks.specs.Memory.{view, marksRoom, Roomy, Cleared}
+use Rattle.dependency.specs.declared.Lookup.{Lookup}
+use Rattle.dependency.specs.declared.Lookup.the-variants.{Found, Absent, Circular}
+
+-- 'clear marks and an empty list', for two well-formed ads
+pub record Ready (v w target stamp from followed flag list : List ℕ) : Type 0 where
+  pub first-formed : Formed v
+  pub second-formed : Formed w
+  pub roomy : Roomy target stamp from followed flag list
+  pub cleared : Cleared target stamp from followed flag list
+
+-- What the traversal of a graph comes to: 'its end is what these moves, exactly as many as it counts, make one after another of its
+-- first place, clear marks and an empty list. From clear marks it ends with exactly the circular references and the list, its result
+-- carrying a count of at most sixteen times the square of the nodes of both ads'
+pub record Traversed (G : Graph) (count len : ℕ) (target stamp from followed flag list : List ℕ) : Type 0 where
+  pub ends : view (Between (searches G)) len target stamp from followed flag list ≡ transitions G count (first G)
+  -- it was not over at any smaller count
+  pub exact : (j : ℕ) → j < count → ¬ (Ended G (transitions G j (first G)))
+  pub small : count ≤ 16 * (G .size * G .size)
+  pub resolved : (x : ℕ) → G .ref x ≡ true → unmarked (getD target x 0) ≡ G .links x
+  pub circular : Flags G (raised flag)
+  pub order : List ℕ
+  pub is-list : IsList G order
+  pub length-is : len ≡ length order
+  -- the whole list, each entry one more than its node, then zeros
+  pub written : list ≡ map suc order ++ replicate (length list - length order) 0
+
+-- What one transition of a pair asks: of the ads and the sizes, and of the place. Of what the marks hold it asks only that the
+-- target recorded of the node at hand is a number of a node.
+abbrev pub PlaceFits : (v w : List ℕ) → (searches m len : ℕ) → (target list : List ℕ) → Place → Type 0
+PlaceFits v w searches m len target list (Resolving i) = i < nodeCount v + nodeCount w
+PlaceFits v w searches m len target list (Between k) = k < searches
+PlaceFits v w searches m len target list (Inside k x) = Stands v w x × (k < searches) × (m ≤ k → len < length list) × (getD target x 0 ≤ marksRoom)
+
+-- whether there is no search left, of n
+abbrev pub endedAt : Place → ℕ → Bool
+endedAt (Resolving i) n = false
+endedAt (Between k) n = leb n k
+endedAt (Inside k x) n = false
+
+-- ---- what is found of a reference when the traversal is over, from its marks alone
+
+abbrev pub foundAt : ℕ → Lookup
+foundAt zero = Absent
+foundAt (suc y) = Found y
+
+unfoldable pub lookupOf : (target flag : List ℕ) → ℕ → Lookup
+lookupOf target flag x = cond (raised flag x) Circular (foundAt (getD target x 0))

@@ -1,0 +1,153 @@
+-- Each way through the functions that read a stored ad. Assumes nothing.
+use mathlib.Core.Path.{_≡_, refl, sym, ap, _∙_, subst}
+use mathlib.Core.Logic.{_≢_}
+use mathlib.Core.Bool.{Bool, true, false, cond}
+use mathlib.Core.List.{List, [], _∷_, map}
+use Prim.Native.Nat.{ℕ, zero, suc, _+_, _-_, _*_, _≤_, _<_}
+use native.Mathlib.Nat.{le-of-eq}
+use native.Mathlib.Numerals.{add-one}
+use native.Mathlib.Omega.{arith}
+use lib.ListN.{length, getD, take}
+use lib.Seq.{take-all, take-nil}
+use lib.Dec.{eqb, ltb}
+use Rattle.text.specs.Strings.{sameName}
+use Rattle.syntax.specs.Bounds.{maxNodes, maxDefinitions}
+use Rattle.graph.specs.Laws.Members.{eqb-yes, eqb-no, ltb-yes, ltb-no}
+use Rattle.graph.specs.Transition.{marked}
+use Rattle.links.specs.Stored.{leading, kindAt, lengthAt, offsetAt, rootAt, bytesAt, nodeCount, definitionCount, arity, isReference, findFrom, find}
+use Rattle.links.specs.Pair.{numbered, Formed}
+use Rattle.links.specs.Laws.Counting.{leading-more, leading-stop, nodes-few, definitions-few}
+
+-- ---- kinds
+
+pub reference-own : (k : ℕ) → k ≡ 7 → true ≡ isReference k
+reference-own k e = rw (eqb-yes e) refl
+
+pub reference-other : (k : ℕ) → k ≢ 7 → eqb k 8 ≡ isReference k
+reference-other k n = rw (eqb-no n) refl
+
+module _ (k : ℕ) where
+  pub arity-none : k < 9 → 0 ≡ arity k
+  unfolding arity
+  arity-none h = rw (ltb-yes h) refl
+
+  pub arity-unary : 9 ≤ k → k < 12 → 1 ≡ arity k
+  unfolding arity
+  arity-unary a b = rw (ltb-no a, ltb-yes b) refl
+
+  pub arity-conditional : k ≡ 12 → 3 ≡ arity k
+  unfolding arity
+  arity-conditional e = rw e refl
+
+  pub arity-binary : 12 ≤ k → k ≢ 12 → k < 28 → 2 ≡ arity k
+  unfolding arity
+  arity-binary a n b = let c : 9 ≤ k = omega arith in rw (ltb-no c, ltb-no a, eqb-no n, ltb-yes b) refl
+
+  pub arity-beyond : 28 ≤ k → 0 ≡ arity k
+  unfolding arity
+  arity-beyond a =
+      let b : 9 ≤ k = omega arith in
+      let c : 12 ≤ k = omega arith in
+      let n : k ≢ 12 = λ e. omega arith in
+      rw (ltb-no b, ltb-no c, eqb-no n, ltb-no a) refl
+
+-- ---- counting up to the first 0
+
+pub record Counted (f : ℕ → ℕ) (n i : ℕ) : Type 0 where
+  pub most : i ≤ n
+  pub rest : leading f 0 n ≡ i + leading f i (n - i)
+
+module _ (f : ℕ → ℕ) (n : ℕ) where
+  pub counted-first : Counted f n 0
+  counted-first = record {
+    most = omega arith;
+    rest = ap (leading f 0) (let q : n ≡ n - 0 = omega arith in q) ∙ (let q : leading f 0 (n - 0) ≡ 0 + leading f 0 (n - 0) = omega arith in q);
+  }
+
+  module _ (i : ℕ) (c : Counted f n i) where
+    pub counted-next : i < n → f i ≢ 0 → Counted f n (i + 1)
+    counted-next h e =
+        let a : leading f i (n - i) ≡ suc (leading f (suc i) (n - suc i)) =
+        ap (leading f i) (let q : n - i ≡ suc (n - suc i) = omega arith in q) ∙ sym (leading-more f i (n - suc i) e) in
+        let b : leading f (i + 1) (n - (i + 1)) ≡ leading f (suc i) (n - suc i) = ap (λ (u : ℕ). leading f u (n - u)) (add-one i) in
+        record { most = omega arith; rest = let r = c .rest in omega arith }
+
+    pub counted-stop : i < n → f i ≡ 0 → i ≡ leading f 0 n
+    counted-stop h e =
+        let a : leading f i (n - i) ≡ 0 = ap (leading f i) (let q : n - i ≡ suc (n - suc i) = omega arith in q) ∙ sym (leading-stop f i (n - suc i) e) in
+        let r = c .rest in
+        omega arith
+
+    pub counted-end : n ≤ i → i ≡ leading f 0 n
+    unfolding leading
+    counted-end h =
+        let a : leading f i (n - i) ≡ 0 = ap (leading f i) (let q : n - i ≡ 0 = omega arith in q) in
+        let r = c .rest in
+        omega arith
+
+-- the counts of an ad
+module _ (w : List ℕ) where
+  pub nodes-are : {i : ℕ} → i ≡ leading (kindAt w) 0 maxNodes → i ≡ nodeCount w
+  unfolding nodeCount
+  nodes-are e = e
+
+  pub definitions-are : {i : ℕ} → i ≡ leading (lengthAt w) 0 maxDefinitions → i ≡ definitionCount w
+  unfolding definitionCount
+  definitions-are e = e
+
+-- ---- a part of the bytes
+
+pub cut-none : (n m : ℕ) → _≡_ {A = List ℕ} (take n []) (take m [])
+cut-none n m = take-nil n ∙ sym (take-nil m)
+
+-- as many as there are, or more
+pub cut-all : (l : List ℕ) (n m : ℕ) → length l ≡ n → n ≤ m → take n l ≡ take m l
+cut-all l n m e h = take-all n l (le-of-eq e) ∙ sym (take-all m l (rw e h))
+
+-- ---- a name is looked up
+
+pub root-number : (second : Bool) (y : ℕ) → second ≡ true → maxNodes + y + 1 ≡ numbered second y + 1
+root-number second y e = rw e refl
+
+pub root-plain : (second : Bool) (y : ℕ) → second ≡ false → y + 1 ≡ numbered second y + 1
+root-plain second y e = rw e refl
+
+-- the first j definitions have another name
+pub record Sought (w b name : List ℕ) (d j : ℕ) : Type 0 where
+  pub most : j ≤ d
+  pub rest : find w b name ≡ findFrom w b name j (d - j)
+
+module _ (w b name : List ℕ) (d : ℕ) (e : d ≡ definitionCount w) where
+  pub sought-first : Sought w b name d 0
+  unfolding find
+  sought-first = record { most = omega arith; rest = ap (findFrom w b name 0) (sym e ∙ (let q : d ≡ d - 0 = omega arith in q)) }
+
+  module _ (j : ℕ) (s : Sought w b name d j) where
+    one-more : j < d → find w b name ≡ cond (sameName (bytesAt b (offsetAt w j) (lengthAt w j)) name) (rootAt w j ∷ []) (findFrom w b name (suc j) (d - suc j))
+    unfolding findFrom
+    one-more h = s .rest ∙ ap (findFrom w b name j) (let q : d - j ≡ suc (d - suc j) = omega arith in q)
+
+    pub sought-next : {t : Bool} → j < d → t ≡ sameName (bytesAt b (offsetAt w j) (lengthAt w j)) name → t ≡ false → Sought w b name d (j + 1)
+    sought-next h q f = record {
+      most = omega arith;
+      rest = one-more h ∙ ap (λ (t : Bool). cond t (rootAt w j ∷ []) (findFrom w b name (suc j) (d - suc j))) (sym q ∙ f)
+          ∙ ap (λ (u : ℕ). findFrom w b name u (d - u)) (sym (add-one j));
+    }
+
+    pub sought-found : {t : Bool} (second : Bool) (r y : ℕ) → j < d → t ≡ sameName (bytesAt b (offsetAt w j) (lengthAt w j)) name → t ≡ true → y ≡ rootAt w j → r ≡ numbered second y + 1 →
+        r ≡ marked (map (numbered second) (find w b name))
+    sought-found second r y h q f g k =
+        let z : find w b name ≡ rootAt w j ∷ [] = one-more h ∙ ap (λ (t : Bool). cond t (rootAt w j ∷ []) (findFrom w b name (suc j) (d - suc j))) (sym q ∙ f) in
+        k ∙ add-one (numbered second y) ∙ ap (λ (u : ℕ). suc (numbered second u)) g ∙ sym (ap (λ (l : List ℕ). marked (map (numbered second) l)) z)
+
+    pub sought-none : (second : Bool) → d ≤ j → 0 ≡ marked (map (numbered second) (find w b name))
+    unfolding findFrom
+    sought-none second h =
+        let z : find w b name ≡ [] = s .rest ∙ ap (findFrom w b name j) (let q : d - j ≡ 0 = omega arith in q) in
+        sym (ap (λ (l : List ℕ). marked (map (numbered second) l)) z)
+
+pub root-small : {w : List ℕ} {d y : ℕ} (j : ℕ) → Formed w → d ≡ definitionCount w → j < d → y ≡ rootAt w j → y < 1024
+root-small {w} j f e h q = let a = f .roots-in j (omega arith) in let b = nodes-few w in omega arith
+
+pub name-small : {w : List ℕ} {d : ℕ} (j : ℕ) → Formed w → d ≡ definitionCount w → j < d → j < 256
+name-small {w} j f e h = let a = definitions-few w in omega arith

@@ -1,0 +1,15 @@
+use denote.Ref.{now}
+use Rattle.links.specs.Laws.Numbering.{kind-first, kind-second}
+use borrow.Author.Needs.{needs}
+use Rattle.links.proofs.kind_of.Statement.{statement}
+use Rattle.links.proofs.kind_of.Tie as tie
+
+returns : tie.Need-returns
+returns c = kind-first (now (c .before .before .before .before .args .v)) (now (c .before .before .before .before .args .w)) (c .before .before .before .before .args .x) (c .before .if1 .taken) (c .kind .ensures)
+
+returns-2 : tie.Need-returns-2
+returns-2 c = kind-second (now (c .before .before .before .before .args .v)) (now (c .before .before .before .before .args .w)) (c .before .before .before .before .args .x) (search needs) (c .kind2 .ensures)
+
+pub kind-of-spec : {M : Type 1} → statement M
+kind-of-spec = tie.close (tie.spec
+    (λ c κs. search needs) returns (λ c κs. search needs) returns-2)

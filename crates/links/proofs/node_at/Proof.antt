@@ -1,0 +1,14 @@
+use Rattle.links.specs.Laws.Numbering.{below-yes, below-no}
+use borrow.Author.Needs.{needs}
+use Rattle.links.proofs.node_at.Statement.{statement}
+use Rattle.links.proofs.node_at.Tie as tie
+
+returns : tie.Need-returns
+returns c = below-yes _ (c .if1 .taken)
+
+returns-2 : tie.Need-returns-2
+returns-2 c = below-no _ (c .if1 .left)
+
+pub node-at-spec : {M : Type 1} → statement M
+node-at-spec = tie.close (tie.spec
+    returns (λ c. search needs) returns-2)

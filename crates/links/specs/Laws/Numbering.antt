@@ -1,0 +1,415 @@
+-- The graph of two ads by the numbers of its nodes: each way through the functions that read it. Assumes nothing.
+use mathlib.Core.Path.{_≡_, refl, sym, ap, _∙_, subst}
+use mathlib.Core.Logic.{_≢_, _⊎_, inl, inr}
+use mathlib.Core.Bool.{Bool, true, false, cond, not, _&&_, _||_}
+use mathlib.Core.List.{List, [], _∷_, _++_, map}
+use Prim.Native.Nat.{ℕ, zero, suc, _+_, _-_, _*_, _≤_, _<_}
+use native.Mathlib.Decide.{ℕ-discrete, decLt}
+use native.Mathlib.Numerals.{add-one}
+use native.Mathlib.Omega.{arith}
+use lib.ListN.{length, getD, take, length-append, length-map, length-take, List·getD-append}
+use lib.Seq.{getD-append-add, getD-take, length-take-le}
+use lib.Dec.{eqb, ltb}
+use Rattle.syntax.specs.Bounds.{maxNodes}
+use Rattle.graph.specs.Members.{_∈_}
+use Rattle.graph.specs.Laws.Members.{eqb-yes, eqb-no, ltb-yes, ltb-no, ltb-true, at-mem}
+use Rattle.graph.specs.Graph.{Graph}
+use Rattle.graph.specs.Transition.{flags, stampOf, searches, start, led, goes, marked, unmarked}
+use Rattle.links.specs.Stored.{kindAt, operandAt, rootAt, nameAt, nodeCount, definitionCount, arity, operands, isOwn, isOther, isReference, find, rootsFrom}
+use Rattle.links.specs.Pair.{numbered, linked, inside, across, linksFrom, refersAt, both, pairGraph, Formed, Measured, Stands}
+use Rattle.links.specs.Laws.Counting.{nodes-few, definitions-few, arity-few, roots-length, roots-at}
+use Rattle.links.specs.Laws.Soundness.{both-low, both-high}
+use Rattle.graph.specs.Members.{numbers, raised}
+
+never : false ≡ true → ⊥
+never e = let z : _≡_ {A = ℕ} 0 1 = cc in omega arith
+
+-- ---- a fact of either side's node
+
+module _ (v w : List ℕ) (x : ℕ) where
+  pub kind-first : {r : ℕ} → x < 1024 → r ≡ kindAt v x → r ≡ both (kindAt v) (kindAt w) x
+  kind-first h e = e ∙ sym (both-low (kindAt v) (kindAt w) x h)
+
+  pub kind-second : {r : ℕ} → 1024 ≤ x → r ≡ kindAt w (x - 1024) → r ≡ both (kindAt v) (kindAt w) x
+  kind-second h e = e ∙ sym (both-high (kindAt v) (kindAt w) x h)
+
+  pub operand-first : (i : ℕ) {r : ℕ} → x < 1024 → r ≡ operandAt v x i → r ≡ both (λ j. operandAt v j i) (λ j. 1024 + operandAt w j i) x
+  operand-first i h e = e ∙ sym (both-low (λ j. operandAt v j i) (λ j. 1024 + operandAt w j i) x h)
+
+  pub operand-second : (i : ℕ) {r : ℕ} → 1024 ≤ x → r ≡ operandAt w (x - 1024) i → 1024 + r ≡ both (λ j. operandAt v j i) (λ j. 1024 + operandAt w j i) x
+  operand-second i h e = ap (λ (u : ℕ). 1024 + u) e ∙ sym (both-high (λ j. operandAt v j i) (λ j. 1024 + operandAt w j i) x h)
+
+  module _ (s : Stands v w x) where
+    pub stands-first : x < 1024 → x < nodeCount v
+    stands-first h = ltb-true (sym (both-low (λ i. ltb i (nodeCount v)) (λ i. ltb i (nodeCount w)) x h) ∙ s)
+
+    pub stands-second : 1024 ≤ x → x - 1024 < nodeCount w
+    stands-second h = ltb-true (sym (both-high (λ i. ltb i (nodeCount v)) (λ i. ltb i (nodeCount w)) x h) ∙ s)
+
+    pub stands-small : x < 2048
+    stands-small = go (decLt x 1024)
+      where
+        go : Dec (x < 1024) → x < 2048
+        go (yes h) = omega arith
+        go (no n) = let k : 1024 ≤ x = let a : ¬ (x < 1024) = n in omega arith in let b = stands-second k in let c = nodes-few w in omega arith
+
+-- ---- operands
+
+operands-long : (w : List ℕ) (j : ℕ) → length (operands w j) ≡ arity (kindAt w j)
+unfolding operands
+operands-long w j = length-take-le (arity (kindAt w j)) (operandAt w j 0 ∷ operandAt w j 1 ∷ operandAt w j 2 ∷ []) (arity-few (kindAt w j))
+
+operands-at : (w : List ℕ) (j i : ℕ) → i < arity (kindAt w j) → getD (operands w j) i 0 ≡ operandAt w j i
+unfolding operands
+operands-at w j i h =
+    getD-take (arity (kindAt w j)) (operandAt w j 0 ∷ operandAt w j 1 ∷ operandAt w j 2 ∷ []) i 0 h ∙ go i (let a = arity-few (kindAt w j) in let q : i < 3 = omega arith in q)
+  where
+    go : (i : ℕ) → i < 3 → getD (operandAt w j 0 ∷ operandAt w j 1 ∷ operandAt w j 2 ∷ []) i 0 ≡ operandAt w j i
+    go zero k = refl
+    go (suc zero) k = refl
+    go (suc (suc zero)) k = refl
+    go (suc (suc (suc n))) k = absurd (let q : ⊥ = omega arith in q)
+
+operand-below : (w : List ℕ) → Formed w → (j i : ℕ) → j < nodeCount w → i < arity (kindAt w j) → operandAt w j i < j
+operand-below w f j i h k =
+    let m : getD (operands w j) i 0 ∈ operands w j = at-mem (operands w j) i (rw (operands-long w j) k) in
+    rw (operands-at w j i k) at (f .operands-below j h _ m)
+
+-- ---- links as numbers
+
+inside-numbers : (s : Bool) (l : List ℕ) → map (linked s) (map inside l) ≡ map (numbered s) l
+inside-numbers s [] = refl
+inside-numbers s (y ∷ l) = ap (λ (u : List ℕ). numbered s y ∷ u) (inside-numbers s l)
+
+across-numbers : (s : Bool) (l : List ℕ) → map (linked s) (map across l) ≡ map (numbered (not s)) l
+across-numbers s [] = refl
+across-numbers s (y ∷ l) = ap (λ (u : List ℕ). numbered (not s) y ∷ u) (across-numbers s l)
+
+map-at : (f : ℕ → ℕ) (l : List ℕ) (i : ℕ) → i < length l → getD (map f l) i 0 ≡ f (getD l i 0)
+map-at f [] i h = absurd (let q : ⊥ = omega arith in q)
+map-at f (y ∷ l) zero h = refl
+map-at f (y ∷ l) (suc i) h = map-at f l i (omega arith)
+
+or-none : (a b : Bool) → (a || b) ≡ false → (a ≡ false) × (b ≡ false)
+or-none true b e = absurd (never (sym e))
+or-none false b e = (refl, e)
+
+module _ (w b w′ b′ : List ℕ) (s : Bool) (j : ℕ) (h : j < nodeCount w) where
+  links-operator : isReference (kindAt w j) ≡ false → map (linked s) (linksFrom w b w′ b′ j) ≡ map (numbered s) (operands w j)
+  unfolding linksFrom
+  links-operator e =
+      let q = or-none (isOwn (kindAt w j)) (isOther (kindAt w j)) e in
+      rw (ltb-yes h, q .0, q .1) (inside-numbers s (operands w j))
+
+  links-own : kindAt w j ≡ 7 → map (linked s) (linksFrom w b w′ b′ j) ≡ map (numbered s) (find w b (nameAt w b j))
+  unfolding linksFrom
+  links-own e = rw (ltb-yes h, eqb-yes e) (inside-numbers s (find w b (nameAt w b j)))
+
+  links-other : kindAt w j ≡ 8 → map (linked s) (linksFrom w b w′ b′ j) ≡ map (numbered (not s)) (find w′ b′ (nameAt w b j))
+  unfolding linksFrom
+  links-other e =
+      let n : kindAt w j ≢ 7 = λ q. (let z : _≡_ {A = ℕ} 7 8 = sym q ∙ e in omega arith) in
+      rw (ltb-yes h, eqb-no n, eqb-yes e) (across-numbers s (find w′ b′ (nameAt w b j)))
+
+  -- what is to be recorded of node j
+  pub found-own : {kd r : ℕ} {name : List ℕ} → kd ≡ kindAt w j → kd ≡ 7 → name ≡ nameAt w b j → r ≡ marked (map (numbered s) (find w b name)) →
+      r ≡ cond (isReference (kindAt w j)) (marked (map (linked s) (linksFrom w b w′ b′ j))) 0
+  found-own {kd} {r} {name} p e q k =
+      let e′ : kindAt w j ≡ 7 = sym p ∙ e in
+      k ∙ ap (λ (n : List ℕ). marked (map (numbered s) (find w b n))) q ∙ ap marked (sym (links-own e′)) ∙ rw (eqb-yes e′) refl
+
+  pub found-other : {kd r : ℕ} {name : List ℕ} {far : Bool} → kd ≡ kindAt w j → kd ≡ 8 → name ≡ nameAt w b j → far ≡ not s → r ≡ marked (map (numbered far) (find w′ b′ name)) →
+      r ≡ cond (isReference (kindAt w j)) (marked (map (linked s) (linksFrom w b w′ b′ j))) 0
+  found-other {kd} {r} {name} {far} p e q f k =
+      let e′ : kindAt w j ≡ 8 = sym p ∙ e in
+      let n : kindAt w j ≢ 7 = λ q. (let z : _≡_ {A = ℕ} 7 8 = sym q ∙ e′ in omega arith) in
+      k ∙ ap (λ (t : Bool). marked (map (numbered t) (find w′ b′ name))) f ∙ ap (λ (n : List ℕ). marked (map (numbered (not s)) (find w′ b′ n))) q
+      ∙ ap marked (sym (links-other e′)) ∙ rw (eqb-no n, eqb-yes e′) refl
+
+  pub found-none : {kd : ℕ} → kd ≡ kindAt w j → kd ≢ 7 → kd ≢ 8 → 0 ≡ cond (isReference (kindAt w j)) (marked (map (linked s) (linksFrom w b w′ b′ j))) 0
+  found-none {kd} p e f =
+      let e′ : kindAt w j ≢ 7 = λ q. e (p ∙ q) in
+      let f′ : kindAt w j ≢ 8 = λ q. f (p ∙ q) in
+      rw (eqb-no e′, eqb-no f′) refl
+
+-- ---- the pair's graph
+
+module _ (v b w c : List ℕ) (x : ℕ) (s : Stands v w x) where
+  G : Graph
+  G = pairGraph v b w c
+
+  kd : ℕ
+  kd = both (kindAt v) (kindAt w) x
+
+  pub ref-is : pairGraph v b w c .ref x ≡ isReference (both (kindAt v) (kindAt w) x)
+  unfolding pairGraph refersAt
+  ref-is = go (decLt x 1024)
+    where
+      go : Dec (x < 1024) → both (λ i. ltb i (nodeCount v) && isReference (kindAt v i)) (λ i. ltb i (nodeCount w) && isReference (kindAt w i)) x ≡ isReference (both (kindAt v) (kindAt w) x)
+      go (yes h) =
+          both-low _ _ x h ∙ rw (ltb-yes (stands-first v w x s h)) refl ∙ ap isReference (sym (both-low (kindAt v) (kindAt w) x h))
+      go (no n) =
+          let h : 1024 ≤ x = let a : ¬ (x < 1024) = n in omega arith in
+          both-high _ _ x h ∙ rw (ltb-yes (stands-second v w x s h)) refl ∙ ap isReference (sym (both-high (kindAt v) (kindAt w) x h))
+
+  -- the recorded target of a reference
+  pub found-first : {r : ℕ} → x < 1024 → r ≡ cond (isReference (kindAt v x)) (marked (map (linked false) (linksFrom v b w c x))) 0 →
+      r ≡ cond (pairGraph v b w c .ref x) (marked (pairGraph v b w c .links x)) 0
+  unfolding pairGraph
+  found-first {r} h e =
+      e ∙ ap (λ (t : Bool). cond t (marked (map (linked false) (linksFrom v b w c x))) 0) (ap isReference (sym (both-low (kindAt v) (kindAt w) x h)) ∙ sym ref-is)
+      ∙ ap (λ (l : List ℕ). cond (pairGraph v b w c .ref x) (marked l) 0) (sym (both-low (λ i. map (linked false) (linksFrom v b w c i)) (λ i. map (linked true) (linksFrom w c v b i)) x h))
+
+  pub found-second : {r : ℕ} → 1024 ≤ x → r ≡ cond (isReference (kindAt w (x - 1024))) (marked (map (linked true) (linksFrom w c v b (x - 1024)))) 0 →
+      r ≡ cond (pairGraph v b w c .ref x) (marked (pairGraph v b w c .links x)) 0
+  unfolding pairGraph
+  found-second {r} h e =
+      e ∙ ap (λ (t : Bool). cond t (marked (map (linked true) (linksFrom w c v b (x - 1024)))) 0) (ap isReference (sym (both-high (kindAt v) (kindAt w) x h)) ∙ sym ref-is)
+      ∙ ap (λ (l : List ℕ). cond (pairGraph v b w c .ref x) (marked l) 0) (sym (both-high (λ i. map (linked false) (linksFrom v b w c i)) (λ i. map (linked true) (linksFrom w c v b i)) x h))
+
+  module _ {k : ℕ} {t : Bool} (ke : k ≡ both (kindAt v) (kindAt w) x) (te : t ≡ isReference k) (ta : List ℕ) where
+    pub ref-test : pairGraph v b w c .ref x ≡ t
+    ref-test = ref-is ∙ sym (te ∙ ap isReference ke)
+
+    led-recorded : t ≡ true → led (pairGraph v b w c) (numbers ta) x ≡ unmarked (getD ta x 0)
+    unfolding led
+    led-recorded e = rw (ref-test ∙ e) refl
+
+    led-links : t ≡ false → led (pairGraph v b w c) (numbers ta) x ≡ pairGraph v b w c .links x
+    unfolding led
+    led-links e = rw (ref-test ∙ e) refl
+
+    pub count-none : t ≡ true → getD ta x 0 ≡ 0 → 0 ≡ length (led (pairGraph v b w c) (numbers ta) x)
+    count-none e z = sym (ap length (led-recorded e ∙ ap unmarked z))
+
+    pub count-one : t ≡ true → getD ta x 0 ≢ 0 → 1 ≡ length (led (pairGraph v b w c) (numbers ta) x)
+    count-one e z = sym (ap length (led-recorded e) ∙ go (getD ta x 0) z)
+      where
+        go : (u : ℕ) → u ≢ 0 → length (unmarked u) ≡ 1
+        go zero q = absurd (q refl)
+        go (suc y) q = refl
+
+    target-at : (u i : ℕ) → i < length (unmarked u) → (1 ≤ u) × (u - 1 ≡ getD (unmarked u) i 0)
+    target-at zero i h = absurd (let q : ⊥ = omega arith in q)
+    target-at (suc y) zero h = (omega arith, omega arith)
+    target-at (suc y) (suc i) h = absurd (let z : suc i < 1 = h in let q : ⊥ = omega arith in q)
+
+    pub to-some : (i : ℕ) → t ≡ true → i < length (led (pairGraph v b w c) (numbers ta) x) → 1 ≤ getD ta x 0
+    to-some i e h = target-at (getD ta x 0) i (subst (λ (l : List ℕ). i < length l) (led-recorded e) h) .0
+
+    pub to-target : (i : ℕ) → t ≡ true → i < length (led (pairGraph v b w c) (numbers ta) x) → getD ta x 0 - 1 ≡ getD (led (pairGraph v b w c) (numbers ta) x) i 0
+    to-target i e h =
+        target-at (getD ta x 0) i (subst (λ (l : List ℕ). i < length l) (led-recorded e) h) .1 ∙ sym (ap (λ (l : List ℕ). getD l i 0) (led-recorded e))
+
+    links-first : t ≡ false → x < 1024 → led (pairGraph v b w c) (numbers ta) x ≡ map (numbered false) (operands v x)
+    unfolding pairGraph
+    links-first e h =
+        led-links e ∙ both-low _ _ x h
+        ∙ links-operator v b w c false x (stands-first v w x s h) (ap isReference (sym (ke ∙ both-low (kindAt v) (kindAt w) x h)) ∙ sym te ∙ e)
+
+    links-second : t ≡ false → 1024 ≤ x → led (pairGraph v b w c) (numbers ta) x ≡ map (numbered true) (operands w (x - 1024))
+    unfolding pairGraph
+    links-second e h =
+        led-links e ∙ both-high _ _ x h
+        ∙ links-operator w c v b true (x - 1024) (stands-second v w x s h) (ap isReference (sym (ke ∙ both-high (kindAt v) (kindAt w) x h)) ∙ sym te ∙ e)
+
+    numbers-long : (f : ℕ → ℕ) (u : List ℕ) (j : ℕ) → length (map f (operands u j)) ≡ arity (kindAt u j)
+    numbers-long f u j = length-map (operands u j) f ∙ operands-long u j
+
+    pub count-operands : {r : ℕ} → t ≡ false → r ≡ arity k → r ≡ length (led (pairGraph v b w c) (numbers ta) x)
+    count-operands {r} e q = go (decLt x 1024)
+      where
+        go : Dec (x < 1024) → r ≡ length (led (pairGraph v b w c) (numbers ta) x)
+        go (yes h) = q ∙ ap arity (ke ∙ both-low (kindAt v) (kindAt w) x h) ∙ sym (ap length (links-first e h) ∙ numbers-long (numbered false) v x)
+        go (no n) =
+            let h : 1024 ≤ x = let a : ¬ (x < 1024) = n in omega arith in
+            q ∙ ap arity (ke ∙ both-high (kindAt v) (kindAt w) x h) ∙ sym (ap length (links-second e h) ∙ numbers-long (numbered true) w (x - 1024))
+
+    module _ (i : ℕ) (e : t ≡ false) (lt : i < length (led (pairGraph v b w c) (numbers ta) x)) where
+      first-lt : (h : x < 1024) → i < arity (kindAt v x)
+      first-lt h = rw (ap length (links-first e h) ∙ numbers-long (numbered false) v x) at lt
+
+      second-lt : (h : 1024 ≤ x) → i < arity (kindAt w (x - 1024))
+      second-lt h = rw (ap length (links-second e h) ∙ numbers-long (numbered true) w (x - 1024)) at lt
+
+      pub to-few : i < 3
+      to-few = go (decLt x 1024)
+        where
+          go : Dec (x < 1024) → i < 3
+          go (yes h) = let a = first-lt h in let d = arity-few (kindAt v x) in omega arith
+          go (no n) =
+              let h : 1024 ≤ x = let a : ¬ (x < 1024) = n in omega arith in
+              let a = second-lt h in
+              let d = arity-few (kindAt w (x - 1024)) in
+              omega arith
+
+      pub to-below : Formed w → 1024 ≤ x → operandAt w (x - 1024) i < 1024
+      to-below f h =
+          let a = operand-below w f (x - 1024) i (stands-second v w x s h) (second-lt h) in
+          let d = stands-small v w x s in
+          omega arith
+
+      pub to-small : Formed v → Formed w → {r : ℕ} → r ≡ both (λ j. operandAt v j i) (λ j. 1024 + operandAt w j i) x → r < 2048
+      to-small f g {r} q = go (decLt x 1024)
+        where
+          go : Dec (x < 1024) → r < 2048
+          go (yes h) =
+              let a : r ≡ operandAt v x i = q ∙ both-low _ _ x h in
+              let d = operand-below v f x i (stands-first v w x s h) (first-lt h) in
+              omega arith
+          go (no n) =
+              let h : 1024 ≤ x = let a : ¬ (x < 1024) = n in omega arith in
+              let a : r ≡ 1024 + operandAt w (x - 1024) i = q ∙ both-high _ _ x h in
+              let d = to-below g h in
+              omega arith
+
+      pub to-operand : {r : ℕ} → r ≡ both (λ j. operandAt v j i) (λ j. 1024 + operandAt w j i) x → r ≡ getD (led (pairGraph v b w c) (numbers ta) x) i 0
+      to-operand {r} q = go (decLt x 1024)
+        where
+          go : Dec (x < 1024) → r ≡ getD (led (pairGraph v b w c) (numbers ta) x) i 0
+          go (yes h) =
+              q ∙ both-low _ _ x h ∙ sym (operands-at v x i (first-lt h))
+              ∙ sym (ap (λ (l : List ℕ). getD l i 0) (links-first e h) ∙ map-at (numbered false) (operands v x) i (rw (operands-long v x) (first-lt h)))
+          go (no n) =
+              let h : 1024 ≤ x = let a : ¬ (x < 1024) = n in omega arith in
+              q ∙ both-high _ _ x h ∙ ap (λ (u : ℕ). 1024 + u) (sym (operands-at w (x - 1024) i (second-lt h)))
+              ∙ sym (ap (λ (l : List ℕ). getD l i 0) (links-second e h) ∙ map-at (numbered true) (operands w (x - 1024)) i (rw (operands-long w (x - 1024)) (second-lt h)))
+
+-- ---- the links that a search follows
+
+module _ (H : Graph) (m k x : ℕ) (ta fl : List ℕ) (e : length (H .sources) ≡ m) where
+  flags-yes : k < m → flags H k ≡ true
+  unfolding flags
+  flags-yes h = ltb-yes (let q : k < length (H .sources) = omega arith in q)
+
+  flags-no : m ≤ k → flags H k ≡ false
+  unfolding flags
+  flags-no h = ltb-no (let q : length (H .sources) ≤ k = omega arith in q)
+
+  pub degree-flags : {r : ℕ} → k < m → r ≡ length (led H (numbers ta) x) → r ≡ length (goes H k (numbers ta) (raised fl) x)
+  unfolding goes
+  degree-flags h q = q ∙ rw (flags-yes h) refl
+
+  pub degree-circular : m ≤ k → getD fl x 0 ≡ 1 → 0 ≡ length (goes H k (numbers ta) (raised fl) x)
+  unfolding goes
+  degree-circular h q = rw (flags-no h, eqb-yes q) refl
+
+  pub degree-lists : {r : ℕ} → m ≤ k → getD fl x 0 ≢ 1 → r ≡ length (led H (numbers ta) x) → r ≡ length (goes H k (numbers ta) (raised fl) x)
+  unfolding goes
+  degree-lists h n q = q ∙ rw (flags-no h, eqb-no n) refl
+
+  pub closes-late : m ≤ k → (d : Bool) → false ≡ (flags H k && d)
+  closes-late h d = rw (flags-no h) refl
+
+  pub closes-plain : k < m → {t : Bool} (d : Bool) → H .ref x ≡ t → t ≡ false → false ≡ (flags H k && (H .ref x && d))
+  closes-plain h d p q = rw (flags-yes h, p ∙ q) refl
+
+  pub closes-test : k < m → {t : Bool} (y z : ℕ) → H .ref x ≡ t → t ≡ true → z ≡ start H k → eqb y z ≡ (flags H k && (H .ref x && eqb y (start H k)))
+  closes-test h y z p q r = rw (flags-yes h, p ∙ q) (ap (eqb y) r)
+
+  pub stamp-is : {t : ℕ} → t ≡ cond (ltb k m) (k + 1) (m + 1) → t ≡ stampOf H k
+  unfolding stampOf flags
+  stamp-is q = q ∙ rw (e, add-one k, add-one m) refl
+
+-- a link that a search follows is one that the node leads to
+goes-led : (H : Graph) (k x i : ℕ) (ta fl : List ℕ) → i < length (goes H k (numbers ta) (raised fl) x) → goes H k (numbers ta) (raised fl) x ≡ led H (numbers ta) x
+unfolding goes
+goes-led H k x i ta fl h = go (flags H k) (raised fl x) h
+  where
+    go : (p q : Bool) → i < length (cond p (led H (numbers ta) x) (cond q [] (led H (numbers ta) x))) →
+        cond p (led H (numbers ta) x) (cond q [] (led H (numbers ta) x)) ≡ led H (numbers ta) x
+    go true q z = refl
+    go false true z = absurd (let a : i < 0 = z in let b : ⊥ = omega arith in b)
+    go false false z = refl
+
+pub goes-in : (H : Graph) (k x i : ℕ) (ta fl : List ℕ) → i < length (goes H k (numbers ta) (raised fl) x) → i < length (led H (numbers ta) x)
+goes-in H k x i ta fl h = subst (λ (l : List ℕ). i < length l) (goes-led H k x i ta fl h) h
+
+pub goes-next : (H : Graph) (k x i y : ℕ) (ta fl : List ℕ) → i < length (goes H k (numbers ta) (raised fl) x) → y ≡ getD (led H (numbers ta) x) i 0 → y ≡ getD (goes H k (numbers ta) (raised fl) x) i 0
+goes-next H k x i y ta fl h e = e ∙ sym (ap (λ (l : List ℕ). getD l i 0) (goes-led H k x i ta fl h))
+
+-- ---- where the searches begin
+
+module _ (v b w c : List ℕ) where
+  pub sources-long : length (pairGraph v b w c .sources) ≡ definitionCount v + definitionCount w
+  unfolding pairGraph
+  sources-long =
+      let a = length-append (rootsFrom v 0 (definitionCount v)) (map (numbered true) (rootsFrom w 0 (definitionCount w))) in
+      let d = length-map (rootsFrom w 0 (definitionCount w)) (numbered true) in
+      omega (arith, roots-length v 0 (definitionCount v), roots-length w 0 (definitionCount w))
+
+  module _ {n d n′ d′ : ℕ} (p : Measured v n d) (q : Measured w n′ d′) (k : ℕ) where
+    pub sources-are : length (pairGraph v b w c .sources) ≡ d + d′
+    sources-are = let a = p .definitions-are in let e = q .definitions-are in let g = sources-long in omega arith
+
+    pub start-first : {r : ℕ} → k < d → r ≡ rootAt v k → r ≡ start (pairGraph v b w c) k
+    unfolding start pairGraph
+    start-first {r} h e =
+        let a : k < definitionCount v = let z = p .definitions-are in omega arith in
+        let l : k < length (rootsFrom v 0 (definitionCount v)) = rw (roots-length v 0 (definitionCount v)) a in
+        let l′ : k < length (rootsFrom v 0 (definitionCount v) ++ map (numbered true) (rootsFrom w 0 (definitionCount w))) =
+        let z = length-append (rootsFrom v 0 (definitionCount v)) (map (numbered true) (rootsFrom w 0 (definitionCount w))) in omega arith in
+        e ∙ ap (rootAt v) (let z : k ≡ 0 + k = omega arith in z) ∙ sym (roots-at v 0 (definitionCount v) k a)
+        ∙ sym (List·getD-append (rootsFrom v 0 (definitionCount v)) (map (numbered true) (rootsFrom w 0 (definitionCount w))) 0 k l)
+        ∙ sym (List·getD-append (rootsFrom v 0 (definitionCount v) ++ map (numbered true) (rootsFrom w 0 (definitionCount w))) (pairGraph v b w c .roots) 0 k l′)
+
+    pub start-second : {r j : ℕ} → d ≤ k → j ≡ k - d → j < d′ → r ≡ rootAt w j → 1024 + r ≡ start (pairGraph v b w c) k
+    unfolding start pairGraph
+    start-second {r} {j} h je lt e =
+        let a = p .definitions-are in
+        let g = q .definitions-are in
+        let f : j < definitionCount w = omega arith in
+        let r₁ = rootsFrom v 0 (definitionCount v) in
+        let r₂ = rootsFrom w 0 (definitionCount w) in
+        let k₁ : k ≡ length (rootsFrom v 0 (definitionCount v)) + j = let z = roots-length v 0 (definitionCount v) in omega arith in
+        let f′ : j < length (rootsFrom w 0 (definitionCount w)) = rw (roots-length w 0 (definitionCount w)) f in
+        let l′ : k < length (rootsFrom v 0 (definitionCount v) ++ map (numbered true) (rootsFrom w 0 (definitionCount w))) =
+        let z = length-append (rootsFrom v 0 (definitionCount v)) (map (numbered true) (rootsFrom w 0 (definitionCount w))) in
+        let y = length-map (rootsFrom w 0 (definitionCount w)) (numbered true) in
+        omega arith in
+        ap (λ (u : ℕ). 1024 + u) (e ∙ ap (rootAt w) (let z : j ≡ 0 + j = omega arith in z) ∙ sym (roots-at w 0 (definitionCount w) j f))
+        ∙ sym (map-at (numbered true) (rootsFrom w 0 (definitionCount w)) j f′)
+        ∙ sym (getD-append-add (rootsFrom v 0 (definitionCount v)) (map (numbered true) (rootsFrom w 0 (definitionCount w))) j 0)
+        ∙ ap (λ (u : ℕ). getD (rootsFrom v 0 (definitionCount v) ++ map (numbered true) (rootsFrom w 0 (definitionCount w))) u 0) (sym k₁)
+        ∙ sym (List·getD-append (rootsFrom v 0 (definitionCount v) ++ map (numbered true) (rootsFrom w 0 (definitionCount w))) (pairGraph v b w c .roots) 0 k l′)
+
+    pub start-root : (roots : List ℕ) {i : ℕ} → roots ≡ pairGraph v b w c .roots → d + d′ ≤ k → i ≡ k - d - d′ → getD roots i 0 ≡ start (pairGraph v b w c) k
+    unfolding start
+    start-root roots {i} re h ie =
+        let g = sources-are in
+        let k₁ : k ≡ length (pairGraph v b w c .sources) + i = omega arith in
+        ap (λ (l : List ℕ). getD l i 0) re
+        ∙ sym (getD-append-add (pairGraph v b w c .sources) (pairGraph v b w c .roots) i 0)
+        ∙ ap (λ (u : ℕ). getD (pairGraph v b w c .sources ++ pairGraph v b w c .roots) u 0) (sym k₁)
+
+-- ---- small facts of the counts
+
+pub below-yes : {k m x : ℕ} (y : ℕ) → k < m → x ≡ cond (ltb k m) x y
+below-yes y h = rw (ltb-yes h) refl
+
+pub below-no : {k m y : ℕ} (x : ℕ) → m ≤ k → y ≡ cond (ltb k m) x y
+below-no x h = rw (ltb-no h) refl
+
+pub arity-fits : (k : ℕ) {r : ℕ} → r ≡ arity k → r ≤ 3
+arity-fits k e = let a = arity-few k in omega arith
+
+module _ {w : List ℕ} {n d : ℕ} (p : Measured w n d) where
+  pub definitions-fit : d ≤ 256
+  definitions-fit = let a = p .definitions-are in let b = definitions-few w in omega arith
+
+  pub nodes-fit : n ≤ 1024
+  nodes-fit = let a = p .nodes-are in let b = nodes-few w in omega arith
+
+  pub root-fits : (j : ℕ) {y : ℕ} → j < d → y ≡ rootAt w j → y < 1024
+  root-fits j {y} h e =
+      let a = p .definitions-are in
+      let b = p .formed .roots-in j (omega arith) in
+      let c = nodes-few w in
+      omega arith
+
+pub measured-self : {w : List ℕ} {n d : ℕ} → Measured w n d → Measured w (nodeCount w) d
+measured-self p = record { formed = p .formed; nodes-are = refl; definitions-are = p .definitions-are }
+
+pub pair-size : (v b w c : List ℕ) → pairGraph v b w c .size ≡ nodeCount v + nodeCount w
+unfolding pairGraph
+pair-size v b w c = refl

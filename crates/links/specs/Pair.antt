@@ -1,0 +1,103 @@
+-- The graph of two ads lent side by side: v and b are the words and bytes of the first, w and c those of the second. Node x of the
+-- first ad has the number x, node x of the second 1,024 + x: 'The two sides are distinct even if the same ad is lent twice.'
+-- Assumes nothing.
+use mathlib.Core.Path.{_≡_}
+use mathlib.Core.Bool.{Bool, true, false, cond, not, _&&_}
+use mathlib.Core.List.{List, [], _∷_, _++_, map}
+use Prim.Native.Nat.{ℕ, _+_, _-_, _≤_, _<_}
+use lib.ListN.{length}
+use lib.Dec.{ltb}
+use Rattle.text.specs.Bytes.{bytes}
+use Rattle.syntax.specs.Bounds.{maxNodes, maxDefinitions}
+use Rattle.syntax.specs.Tree.{Definition, Ad, nodes}
+use Rattle.ad.specs.Layout.{adWords, storedWords, storedBytes}
+use Rattle.graph.specs.Members.{_∈_, Each}
+use Rattle.graph.specs.Graph.{Graph}
+use Rattle.links.specs.Stored.{kindAt, nodeCount, definitionCount, isOwn, isOther, isReference, operands, nameAt, rootAt, find, rootsFrom}
+
+-- A link as it is said from its own side: whether it goes to the other ad, and to which node there.
+abbrev pub Link : Type 0
+Link = Bool × ℕ
+
+-- the number of node y of the first side, or of the second
+abbrev pub numbered : Bool → ℕ → ℕ
+numbered second y = cond second (maxNodes + y) y
+
+-- the number of the node to which a link goes, said from the first side, or from the second
+abbrev pub linked : Bool → Link → ℕ
+linked second l = numbered (cond (l .0) (not second) second) (l .1)
+
+abbrev pub inside : ℕ → Link
+inside y = (false, y)
+
+abbrev pub across : ℕ → Link
+across y = (true, y)
+
+-- what node i of an ad leads to, w′ and b′ being the other ad: '`name` finds its definition in its own ad, `other.name` in the other';
+-- 'An operator leads to all its operands .. A reference leads to its definition.'
+unfoldable pub linksFrom : List ℕ → List ℕ → List ℕ → List ℕ → ℕ → List Link
+linksFrom w b w′ b′ i =
+    cond (ltb i (nodeCount w))
+    (cond (isOwn (kindAt w i))
+    (map inside (find w b (nameAt w b i)))
+    (cond (isOther (kindAt w i)) (map across (find w′ b′ (nameAt w b i))) (map inside (operands w i))))
+    []
+
+-- whether node i of an ad is a reference
+unfoldable pub refersAt : List ℕ → ℕ → Bool
+refersAt w i = ltb i (nodeCount w) && isReference (kindAt w i)
+
+-- of a pair: what the first ad says of its node, or the second of its
+unfoldable pub both : {A : Type 0} → (ℕ → A) → (ℕ → A) → ℕ → A
+both p q x = cond (ltb x maxNodes) (p x) (q (x - maxNodes))
+
+-- the roots that a name has in an ad, numbered
+abbrev pub rootsOf : Bool → List ℕ → List ℕ → List ℕ → List ℕ
+rootsOf second w b name = map (numbered second) (find w b name)
+
+abbrev pub requirements : List ℕ
+requirements = bytes "Requirements"
+
+abbrev pub rank : List ℕ
+rank = bytes "Rank"
+
+unfoldable pub pairGraph : (v b w c : List ℕ) → Graph
+pairGraph v b w c = record {
+  size = nodeCount v + nodeCount w;
+  node = both (λ i. ltb i (nodeCount v)) (λ i. ltb i (nodeCount w));
+  nth = λ i. cond (ltb i (nodeCount v)) i (maxNodes + (i - nodeCount v));
+  links = both (λ i. map (linked false) (linksFrom v b w c i)) (λ i. map (linked true) (linksFrom w c v b i));
+  ref = both (refersAt v) (refersAt w);
+  sources = rootsFrom v 0 (definitionCount v) ++ map (numbered true) (rootsFrom w 0 (definitionCount w));
+  roots = rootsOf false v b requirements ++ (rootsOf true w c requirements ++ (rootsOf false v b rank ++ rootsOf true w c rank));
+}
+
+-- What a well-formed stored ad keeps to, of the facts that the traversal goes by.
+pub record Formed (w : List ℕ) : Type 0 where
+  pub words-room : adWords ≤ length w
+  pub operands-below : (i : ℕ) → i < nodeCount w → Each (λ y. y < i) (operands w i)
+  pub roots-in : (j : ℕ) → j < definitionCount w → rootAt w j < nodeCount w
+  pub definitions-few : definitionCount w ≤ nodeCount w
+
+-- a well-formed ad, and its counts
+pub record Measured (w : List ℕ) (n d : ℕ) : Type 0 where
+  pub formed : Formed w
+  pub nodes-are : n ≡ nodeCount w
+  pub definitions-are : d ≡ definitionCount w
+
+-- x is a node of the pair
+abbrev pub Stands : (v w : List ℕ) → ℕ → Type 0
+Stands v w x = both (λ i. ltb i (nodeCount v)) (λ i. ltb i (nodeCount w)) x ≡ true
+
+-- no name is empty: 'Name: a letter or `_`, then ..'
+unfoldable pub Named : Ad → Type 0
+Named [] = Unit {0}
+Named (d ∷ ds) = (0 < length (d .name)) × Named ds
+
+-- the memory w and b holds the ad a, which is within the bounds
+pub record StoredAd (w b : List ℕ) (a : Ad) : Type 0 where
+  pub words : w ≡ storedWords a
+  pub bytes-are : b ≡ storedBytes a
+  pub few-nodes : nodes a ≤ maxNodes
+  pub few-definitions : length a ≤ maxDefinitions
+  pub named : Named a

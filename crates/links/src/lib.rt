@@ -1,0 +1,264 @@
+// The graph of two stored ads: its nodes, links and searches by their numbers. v and b are the words and bytes of the first ad, w and
+// c those of the second.
+mod stored;
+
+ghost use mathlib.Core.Path.{_≡_};
+ghost use mathlib.Core.Bool.{Bool, false, true, not, cond, _&&_};
+ghost use mathlib.Core.List.{List, map, _++_};
+ghost use Prim.Native.Nat.{ℕ, _+_, _-_, _≤_, _<_};
+ghost use lib.ListN.{length, getD, take};
+ghost use lib.Dec.{eqb, ltb};
+ghost use Rattle.graph.specs.Transition.{flags, start, led, goes, marked};
+ghost use Rattle.links.specs.Stored.{kindAt, operandAt, nodeCount, isReference, find};
+ghost use Rattle.links.specs.Pair.{numbered, linked, linksFrom, both, pairGraph, Formed, Measured, Stands};
+ghost use Rattle.graph.specs.Members.{numbers, raised};
+
+const NODES: usize = 1024;
+
+// How many nodes and definitions an ad has.
+pub struct Counts {
+    pub nodes: usize,
+    pub definitions: usize,
+}
+
+pub fn measure(words: &[u64]) -> Counts
+    requires { ⌜ Formed (now words) ⌝ }
+    ensures { λ r. ⌜ Measured (now (words .entry)) (r .nodes) (r .definitions) ⌝ }
+{
+    let n = stored::count_nodes(words);
+    let d = stored::count_definitions(words);
+    Counts {
+        nodes: n,
+        definitions: d,
+    }
+}
+
+// The kind of the node x.
+fn kind_of(v: &[u64], w: &[u64], x: usize) -> u64
+    requires { ⌜ (x < 2048) × (4864 ≤ length (now v)) × (4864 ≤ length (now w)) ⌝ }
+    ensures { λ r. ⌜ r ≡ both (kindAt (now (v .entry))) (kindAt (now (w .entry))) x ⌝ }
+{
+    if x < NODES {
+        return stored::kind(v, x);
+    }
+    stored::kind(w, x - NODES)
+}
+
+// The number of the node x's operand i.
+fn operand_of(v: &[u64], w: &[u64], x: usize, i: usize) -> usize
+    requires { ⌜ (x < 2048) × (i < 3) × (4864 ≤ length (now v)) × (4864 ≤ length (now w)) × (1024 ≤ x → operandAt (now w) (x - 1024) i < 1024) ⌝ }
+    ensures { λ r. ⌜ r ≡ both (λ j. operandAt (now (v .entry)) j i) (λ j. 1024 + operandAt (now (w .entry)) j i) x ⌝ }
+{
+    if x < NODES {
+        return stored::operand(v, x, i);
+    }
+    NODES + stored::operand(w, x - NODES, i)
+}
+
+// How many nodes x leads to, by its marks.
+pub fn led_count(v: &[u64], w: &[u64], target: &[usize], x: usize) -> usize
+    requires { ⌜ Formed (now v) × Formed (now w) × Stands (now v) (now w) x × (x < length (now target)) ⌝ }
+    ensures { λ r. ⌜ ((b c : List ℕ) → r ≡ length (led (pairGraph (now (v .entry)) b (now (w .entry)) c) (numbers (now (target .entry))) x)) ⌝ }
+    ensures few { λ r. ⌜ r ≤ 3 ⌝ }
+{
+    let kind = kind_of(v, w, x);
+    if stored::is_reference(kind) {
+        if target[x] == 0 {
+            return 0;
+        }
+        return 1;
+    }
+    stored::operands(kind)
+}
+
+// The node i of those that x leads to.
+pub fn led_to(v: &[u64], w: &[u64], target: &[usize], x: usize, i: usize) -> usize
+    requires { ⌜ Formed (now v) × Formed (now w) × Stands (now v) (now w) x × (x < length (now target)) × ((b c : List ℕ) → i < length (led (pairGraph (now v) b (now w) c) (numbers (now target)) x)) ⌝ }
+    ensures { λ r. ⌜ ((b c : List ℕ) → r ≡ getD (led (pairGraph (now (v .entry)) b (now (w .entry)) c) (numbers (now (target .entry))) x) i 0) ⌝ }
+    ensures small { λ r. ⌜ (getD (now (target .entry)) x 0 ≤ 2048 → r < 2048) ⌝ }
+{
+    let kind = kind_of(v, w, x);
+    if stored::is_reference(kind) {
+        return target[x] - 1;
+    }
+    operand_of(v, w, x, i)
+}
+
+// How many links search k follows from x; m searches are the definitions'.
+pub fn degree(
+    v: &[u64],
+    w: &[u64],
+    target: &[usize],
+    flag: &[usize],
+    m: usize,
+    k: usize,
+    x: usize,
+) -> usize
+    requires { ⌜ Formed (now v) × Formed (now w) × Stands (now v) (now w) x × (x < length (now target)) × (x < length (now flag)) ⌝ }
+    ensures { λ r. ⌜ ((b c : List ℕ) → length (pairGraph (now (v .entry)) b (now (w .entry)) c .sources) ≡ m → r ≡ length (goes (pairGraph (now (v .entry)) b (now (w .entry)) c) k (numbers (now (target .entry))) (raised (now (flag .entry))) x)) ⌝ }
+    ensures few { λ r. ⌜ r ≤ 3 ⌝ }
+{
+    if k < m {
+        return led_count(v, w, target, x);
+    }
+    if flag[x] == 1 {
+        return 0;
+    }
+    led_count(v, w, target, x)
+}
+
+// The node at which search k begins.
+pub fn start_of(v: &[u64], w: &[u64], p: Counts, q: Counts, roots: &[usize], k: usize) -> usize
+    requires { ⌜ Measured (now v) (p .nodes) (p .definitions) × Measured (now w) (q .nodes) (q .definitions) × (k < p .definitions + q .definitions + length (now roots)) ⌝ }
+    ensures { λ r. ⌜ ((b c : List ℕ) → now (roots .entry) ≡ pairGraph (now (v .entry)) b (now (w .entry)) c .roots → r ≡ start (pairGraph (now (v .entry)) b (now (w .entry)) c) k) ⌝ }
+    ensures small { λ r. ⌜ (((i : ℕ) → i < length (now (roots .entry)) → getD (now (roots .entry)) i 0 < 2048) → r < 2048) ⌝ }
+{
+    let d = p.definitions;
+    if k < d {
+        return stored::root(v, k);
+    }
+    let j = k - d;
+    if j < q.definitions {
+        return NODES + stored::root(w, j);
+    }
+    let i = j - q.definitions;
+    roots[i]
+}
+
+// Whether the link from x to y closes a cycle in search k.
+pub fn closes(
+    v: &[u64],
+    w: &[u64],
+    p: Counts,
+    q: Counts,
+    roots: &[usize],
+    k: usize,
+    x: usize,
+    y: usize,
+) -> bool
+    requires { ⌜ Measured (now v) (p .nodes) (p .definitions) × Measured (now w) (q .nodes) (q .definitions) × Stands (now v) (now w) x × (k < p .definitions + q .definitions + length (now roots)) ⌝ }
+    ensures { λ r. ⌜ ((b c : List ℕ) → now (roots .entry) ≡ pairGraph (now (v .entry)) b (now (w .entry)) c .roots → r ≡ (flags (pairGraph (now (v .entry)) b (now (w .entry)) c) k && (pairGraph (now (v .entry)) b (now (w .entry)) c .ref x && eqb y (start (pairGraph (now (v .entry)) b (now (w .entry)) c) k)))) ⌝ }
+{
+    if k < p.definitions + q.definitions {
+        let kind = kind_of(v, w, x);
+        if stored::is_reference(kind) {
+            return y == start_of(v, w, p, q, roots, k);
+        }
+        return false;
+    }
+    false
+}
+
+// The stamp of search k; m searches are the definitions'.
+pub fn stamp_of(m: usize, k: usize) -> usize
+    requires { ⌜ (m < 4096) × (k < 4096) ⌝ }
+    ensures { λ r. ⌜ r ≡ cond (ltb k m) (k + 1) (m + 1) ⌝ }
+{
+    if k < m {
+        return k + 1;
+    }
+    m + 1
+}
+
+// The node of index i; the first ad has n.
+pub fn node_at(n: usize, i: usize) -> usize
+    requires { ⌜ i < 2048 ⌝ }
+    ensures { λ r. ⌜ r ≡ cond (ltb i n) i (1024 + (i - n)) ⌝ }
+{
+    if i < n {
+        return i;
+    }
+    NODES + (i - n)
+}
+
+fn opposite(b: bool) -> bool
+    ensures { λ r. ⌜ r ≡ not b ⌝ }
+{
+    if b {
+        return false;
+    }
+    true
+}
+
+// What is to be recorded of node i of an ad, `second` or the first: where its name is found, if it is a reference. There are d
+// definitions here, and e in the other ad.
+fn found_from(
+    words: &[u64],
+    bytes: &[u8],
+    d: usize,
+    others: &[u64],
+    names: &[u8],
+    e: usize,
+    i: usize,
+    second: bool,
+) -> usize
+    requires own { ⌜ Measured (now words) (nodeCount (now words)) d × Measured (now others) (nodeCount (now others)) e × (i < nodeCount (now words)) ⌝ }
+    ensures { λ r. ⌜ r ≡ cond (isReference (kindAt (now (words .entry)) i)) (marked (map (linked second) (linksFrom (now (words .entry)) (now (bytes .entry)) (now (others .entry)) (now (names .entry)) i))) 0 ⌝ }
+{
+    let kind = stored::kind(words, i);
+    if kind == 7 {
+        let name = stored::name(words, bytes, i);
+        return stored::find_name(words, bytes, d, name, second);
+    }
+    if kind == 8 {
+        let name = stored::name(words, bytes, i);
+        let far = opposite(second);
+        return stored::find_name(others, names, e, name, far);
+    }
+    0
+}
+
+// What is to be recorded of the node x.
+pub fn found_at(v: &[u64], b: &[u8], d: usize, w: &[u64], c: &[u8], e: usize, x: usize) -> usize
+    requires { ⌜ Measured (now v) (nodeCount (now v)) d × Measured (now w) (nodeCount (now w)) e × Stands (now v) (now w) x ⌝ }
+    ensures { λ r. ⌜ r ≡ cond (pairGraph (now (v .entry)) (now (b .entry)) (now (w .entry)) (now (c .entry)) .ref x) (marked (pairGraph (now (v .entry)) (now (b .entry)) (now (w .entry)) (now (c .entry)) .links x)) 0 ⌝ }
+{
+    if x < NODES {
+        return found_from(v, b, d, w, c, e, x, false);
+    }
+    found_from(w, c, e, v, b, d, x - NODES, true)
+}
+
+// The root of a name's definition, if there is one, becomes the n-th of the roots.
+fn add_root(
+    words: &[u64],
+    bytes: &[u8],
+    d: usize,
+    name: &[u8],
+    second: bool,
+    roots: &mut [usize],
+    n: usize,
+) -> usize
+    requires { ⌜ Measured (now words) (nodeCount (now words)) d × (n < length (now roots)) ⌝ }
+    ensures { λ r. ⌜ take r (now (roots .exit)) ≡ take n (now (roots .entry)) ++ map (numbered second) (find (now (words .entry)) (now (bytes .entry)) (now (name .entry))) ⌝ }
+    ensures few { λ r. ⌜ r ≤ n + 1 ⌝ }
+{
+    let f = stored::find_name(words, bytes, d, name, second);
+    if f == 0 {
+        return n;
+    }
+    roots[n] = f - 1;
+    n + 1
+}
+
+// The first ad's Requirements, the second's, the first's Rank, the second's, those that exist.
+pub fn find_roots(
+    v: &[u64],
+    b: &[u8],
+    p: Counts,
+    w: &[u64],
+    c: &[u8],
+    q: Counts,
+    roots: &mut [usize],
+) -> usize
+    requires { ⌜ Measured (now v) (p .nodes) (p .definitions) × Measured (now w) (q .nodes) (q .definitions) × (4 ≤ length (now roots)) ⌝ }
+    ensures { λ r. ⌜ take r (now (roots .exit)) ≡ pairGraph (now (v .entry)) (now (b .entry)) (now (w .entry)) (now (c .entry)) .roots ⌝ }
+    ensures few { λ r. ⌜ r ≤ 4 ⌝ }
+{
+    let d = p.definitions;
+    let e = q.definitions;
+    let i = add_root(v, b, d, b"Requirements", false, roots, 0);
+    let j = add_root(w, c, e, b"Requirements", true, roots, i);
+    let k = add_root(v, b, d, b"Rank", false, roots, j);
+    add_root(w, c, e, b"Rank", true, roots, k)
+}

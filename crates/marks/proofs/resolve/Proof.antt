@@ -1,0 +1,15 @@
+use mathlib.Core.Path.{refl}
+use Rattle.marks.proofs.Rule.{resolve-more, resolve-last}
+use borrow.Author.Needs.{needs}
+use Rattle.marks.proofs.resolve.Statement.{statement}
+use Rattle.marks.proofs.resolve.Tie as tie
+
+returns : tie.Need-returns
+returns c = (λ G st fr fo fl ls a. resolve-more a _ _ st fr fo fl ls (search needs) refl (c .if1 .taken), refl)
+
+returns-2 : tie.Need-returns-2
+returns-2 c = (λ G st fr fo fl ls a. resolve-last a _ _ st fr fo fl ls (search needs) refl (search needs), refl)
+
+pub resolve-spec : {M : Type 1} → statement M
+resolve-spec = tie.close (tie.spec
+    (λ c. search needs) (λ c. search needs) (λ c. search needs) (λ c. search needs) returns (λ c. search needs) returns-2)
