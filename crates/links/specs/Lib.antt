@@ -1,3 +1,4 @@
 pub mod Stored
 pub mod Pair
 pub mod Laws
+pub mod Examples

@@ -323,6 +323,13 @@ module _ (a : Ad) (few : nodes a ≤ maxNodes) (fewer : length a ≤ maxDefiniti
       (memory-length nodeWords (adWords - nodeWords) xs ds fits fits′ (nodes a) (length a) table)
       (λ lt. memory-stop nodeWords (adWords - nodeWords) xs ds fits fits′ (nodes a) (length a) table (omega arith)))
 
+  -- the words of the definitions
+  pub stored-behind : (i : ℕ) → i < 3 * length a → getD (storedWords a) (nodeWords + i) 0 ≡ getD (adDefinitions 0 0 a) i 0
+  unfolding ds
+  stored-behind i h =
+      ap (λ (m : List ℕ). getD m (nodeWords + i) 0) stored-is ∙ behind nodeWords (adWords - nodeWords) xs ds fits fits′ i
+      ∙ List·getD-append ds _ 0 i (let e = definitions-length table in omega arith)
+
   stored-ad-formed : Formed (storedWords a)
   stored-ad-formed = record {
     words-room = rw stored-is (let e = memory-long nodeWords (adWords - nodeWords) xs ds fits fits′ in omega arith);

@@ -95,13 +95,13 @@ or-none true b e = absurd (never (sym e))
 or-none false b e = (refl, e)
 
 module _ (w b w′ b′ : List ℕ) (s : Bool) (j : ℕ) (h : j < nodeCount w) where
-  links-operator : isReference (kindAt w j) ≡ false → map (linked s) (linksFrom w b w′ b′ j) ≡ map (numbered s) (operands w j)
+  pub links-operator : isReference (kindAt w j) ≡ false → map (linked s) (linksFrom w b w′ b′ j) ≡ map (numbered s) (operands w j)
   unfolding linksFrom
   links-operator e =
       let q = or-none (isOwn (kindAt w j)) (isOther (kindAt w j)) e in
       rw (ltb-yes h, q .0, q .1) (inside-numbers s (operands w j))
 
-  links-own : kindAt w j ≡ 7 → map (linked s) (linksFrom w b w′ b′ j) ≡ map (numbered s) (find w b (nameAt w b j))
+  pub links-own : kindAt w j ≡ 7 → map (linked s) (linksFrom w b w′ b′ j) ≡ map (numbered s) (find w b (nameAt w b j))
   unfolding linksFrom
   links-own e = rw (ltb-yes h, eqb-yes e) (inside-numbers s (find w b (nameAt w b j)))
 
