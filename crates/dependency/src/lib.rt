@@ -118,8 +118,8 @@ fn run(
     }
 }
 
-// The traversal of two stored ads: from clear marks and an empty list, each of 2,048 numbers or more, to the targets and flags of
-// their references and the list.
+// The traversal of two stored ads, v and b the words and bytes of the first, w and c those of the second: from clear marks and an empty
+// list, each of 2,048 numbers or more, to the targets and flags of their references and the list.
 pub fn traverse(
     v: &[u64],
     b: &[u8],
