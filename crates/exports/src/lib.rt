@@ -1,0 +1,154 @@
+// The value layer for programs in other languages: the operators over packed slots (docs/LAYOUT.md, `crates/slots`).
+// Any numbers may come. An operator is named by the kind of its node; where a number is no operator's, or an operand's
+// slot is blank, the result is a blank slot. Missing words of `operands` read as 0, and of `result` only slot 0 is
+// written, as far as it is there.
+ghost use mathlib.Core.Path.{_≡_};
+ghost use Rattle.values.specs.declared.Value.the-variants.{Real};
+ghost use Rattle.reals.specs.Reals.{storedReal};
+ghost use Rattle.slots.specs.declared.Slot.the-variants.{Held};
+ghost use Rattle.slots.specs.Packed.{slotAt, Stored};
+ghost use Rattle.exports.specs.Exports.{binaryOf, unaryOf, binarySlot, unarySlot, conditionalSlot};
+use slots::Slot;
+use syntax::Binary;
+use syntax::Unary;
+use values::Value;
+
+// The operator of two operands that a number names.
+pub enum Two {
+    Nothing,
+    Operator(Binary),
+}
+
+// The operator of one operand that a number names.
+pub enum One {
+    Nothing,
+    Operator(Unary),
+}
+
+fn binary_of(kind: u64) -> Two
+    ensures { λ r. ⌜ r ≡ binaryOf kind ⌝ }
+{
+    match kind {
+        13 => Two::Operator(Binary::Or),
+        14 => Two::Operator(Binary::And),
+        15 => Two::Operator(Binary::Equal),
+        16 => Two::Operator(Binary::NotEqual),
+        17 => Two::Operator(Binary::Is),
+        18 => Two::Operator(Binary::Isnt),
+        19 => Two::Operator(Binary::Less),
+        20 => Two::Operator(Binary::LessOrEqual),
+        21 => Two::Operator(Binary::Greater),
+        22 => Two::Operator(Binary::GreaterOrEqual),
+        23 => Two::Operator(Binary::Add),
+        24 => Two::Operator(Binary::Subtract),
+        25 => Two::Operator(Binary::Multiply),
+        26 => Two::Operator(Binary::Divide),
+        27 => Two::Operator(Binary::Remainder),
+        _ => Two::Nothing,
+    }
+}
+
+fn unary_of(kind: u64) -> One
+    ensures { λ r. ⌜ r ≡ unaryOf kind ⌝ }
+{
+    match kind {
+        9 => One::Operator(Unary::Not),
+        10 => One::Operator(Unary::Plus),
+        11 => One::Operator(Unary::Minus),
+        _ => One::Nothing,
+    }
+}
+
+fn binary_slot(first: &[u8], second: &[u8], op: Two, a: Slot, b: Slot) -> Slot
+    ensures { λ r. ⌜ r ≡ binarySlot (now (first .entry)) (now (second .entry)) op a b ⌝ }
+{
+    let Two::Operator(o) = op else {
+        return Slot::Blank;
+    };
+    let Slot::Held(x) = a else {
+        return Slot::Blank;
+    };
+    let Slot::Held(y) = b else {
+        return Slot::Blank;
+    };
+    Slot::Held(operators::binary(first, second, o, x, y))
+}
+
+fn unary_slot(op: One, a: Slot) -> Slot
+    ensures { λ r. ⌜ r ≡ unarySlot op a ⌝ }
+{
+    let One::Operator(o) = op else {
+        return Slot::Blank;
+    };
+    let Slot::Held(x) = a else {
+        return Slot::Blank;
+    };
+    Slot::Held(operators::unary(o, x))
+}
+
+fn conditional_slot(p: Slot, a: Slot, b: Slot) -> Slot
+    ensures { λ r. ⌜ r ≡ conditionalSlot p a b ⌝ }
+{
+    let Slot::Held(x) = p else {
+        return Slot::Blank;
+    };
+    let Slot::Held(y) = a else {
+        return Slot::Blank;
+    };
+    let Slot::Held(z) = b else {
+        return Slot::Blank;
+    };
+    Slot::Held(logic::conditional(x, y, z))
+}
+
+// An operator of two operands, which are slots 0 and 1 of `operands`. `first` and `second` are the two ads' bytes.
+#[no_mangle]
+pub extern "C" fn classad_binary(
+    first: &[u8],
+    second: &[u8],
+    kind: u64,
+    operands: &[u64],
+    result: &mut [u64],
+)
+    ensures { λ _. ⌜ Stored (now (result .entry)) (now (result .exit)) 0 (binarySlot (now (first .entry)) (now (second .entry)) (binaryOf kind) (slotAt (now (operands .entry)) 0) (slotAt (now (operands .entry)) 1)) ⌝ }
+{
+    let a = slots::load(operands, 0);
+    let b = slots::load(operands, 1);
+    slots::store(result, 0, binary_slot(first, second, binary_of(kind), a, b));
+}
+
+// An operator of one operand, which is slot 0 of `operands`.
+#[no_mangle]
+pub extern "C" fn classad_unary(kind: u64, operands: &[u64], result: &mut [u64])
+    ensures { λ _. ⌜ Stored (now (result .entry)) (now (result .exit)) 0 (unarySlot (unaryOf kind) (slotAt (now (operands .entry)) 0)) ⌝ }
+{
+    slots::store(
+        result,
+        0,
+        unary_slot(unary_of(kind), slots::load(operands, 0)),
+    );
+}
+
+// `? :` of slots 0, 1 and 2 of `operands`.
+#[no_mangle]
+pub extern "C" fn classad_conditional(operands: &[u64], result: &mut [u64])
+    ensures { λ _. ⌜ Stored (now (result .entry)) (now (result .exit)) 0 (conditionalSlot (slotAt (now (operands .entry)) 0) (slotAt (now (operands .entry)) 1) (slotAt (now (operands .entry)) 2)) ⌝ }
+{
+    let p = slots::load(operands, 0);
+    let a = slots::load(operands, 1);
+    let b = slots::load(operands, 2);
+    slots::store(result, 0, conditional_slot(p, a, b));
+}
+
+// A real literal's two stored numbers: its digits as one whole number, and how many stand after the point. 0.0 where no
+// literal has them.
+#[no_mangle]
+pub extern "C" fn classad_real(digits: u64, places: u64, result: &mut [u64])
+    ensures { λ _. ⌜ Stored (now (result .entry)) (now (result .exit)) 0 (Held (Real (storedReal digits places))) ⌝ }
+{
+    slots::store(
+        result,
+        0,
+        Slot::Held(Value::Real(reals::literal(digits, places))),
+    );
+}
