@@ -1,0 +1,77 @@
+//! The exported functions of the proved library (`crates/exports`). A slice passes as a
+//! pointer and a length.
+
+extern "C" {
+    fn classad_binary(
+        first: *const u8,
+        first_length: usize,
+        second: *const u8,
+        second_length: usize,
+        kind: u64,
+        operands: *const u64,
+        operands_length: usize,
+        result: *mut u64,
+        result_length: usize,
+    );
+    fn classad_unary(
+        kind: u64,
+        operands: *const u64,
+        operands_length: usize,
+        result: *mut u64,
+        result_length: usize,
+    );
+    fn classad_conditional(
+        operands: *const u64,
+        operands_length: usize,
+        result: *mut u64,
+        result_length: usize,
+    );
+    fn classad_real(digits: u64, places: u64, result: *mut u64, result_length: usize);
+}
+
+pub fn binary(first: &[u8], second: &[u8], kind: u64, operands: &[u64], result: &mut [u64]) {
+    // Safety: each pointer and length are those of one slice; nothing is kept.
+    unsafe {
+        classad_binary(
+            first.as_ptr(),
+            first.len(),
+            second.as_ptr(),
+            second.len(),
+            kind,
+            operands.as_ptr(),
+            operands.len(),
+            result.as_mut_ptr(),
+            result.len(),
+        );
+    }
+}
+
+pub fn unary(kind: u64, operands: &[u64], result: &mut [u64]) {
+    // Safety: as above.
+    unsafe {
+        classad_unary(
+            kind,
+            operands.as_ptr(),
+            operands.len(),
+            result.as_mut_ptr(),
+            result.len(),
+        );
+    }
+}
+
+pub fn conditional(operands: &[u64], result: &mut [u64]) {
+    // Safety: as above.
+    unsafe {
+        classad_conditional(
+            operands.as_ptr(),
+            operands.len(),
+            result.as_mut_ptr(),
+            result.len(),
+        );
+    }
+}
+
+pub fn real(digits: u64, places: u64, result: &mut [u64]) {
+    // Safety: as above.
+    unsafe { classad_real(digits, places, result.as_mut_ptr(), result.len()) }
+}

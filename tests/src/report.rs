@@ -1,0 +1,134 @@
+//! What a run has compared, counted in tables, and the first differences.
+
+use std::fmt::Write;
+
+/// How many differences of one row are shown.
+const SHOWN: usize = 3;
+
+/// Counts by row and column.
+pub struct Table {
+    pub title: &'static str,
+    rows: Vec<&'static str>,
+    columns: Vec<&'static str>,
+    counts: Vec<u64>,
+}
+
+impl Table {
+    pub fn new(title: &'static str, rows: &[&'static str], columns: &[&'static str]) -> Table {
+        Table {
+            title,
+            rows: rows.to_vec(),
+            columns: columns.to_vec(),
+            counts: vec![0; rows.len() * columns.len()],
+        }
+    }
+
+    pub fn add(&mut self, row: usize, column: usize) {
+        self.counts[row * self.columns.len() + column] += 1;
+    }
+
+    fn row(&self, row: usize) -> &[u64] {
+        let width = self.columns.len();
+        &self.counts[row * width..(row + 1) * width]
+    }
+
+    fn text(&self) -> String {
+        let mut text = format!("{:<22}", self.title);
+        for column in &self.columns {
+            write!(text, " {column:>9}").unwrap();
+        }
+        text.push_str("       all\n");
+        for (row, name) in self.rows.iter().enumerate() {
+            write!(text, "  {name:<20}").unwrap();
+            for count in self.row(row) {
+                write!(text, " {count:>9}").unwrap();
+            }
+            writeln!(text, " {:>9}", self.row(row).iter().sum::<u64>()).unwrap();
+        }
+        text
+    }
+}
+
+/// A run's result.
+pub struct Report {
+    pub name: &'static str,
+    seed: u64,
+    pub tables: Vec<Table>,
+    compared: u64,
+    different: u64,
+    /// For each row of the first table, how many differences it had.
+    by_row: Vec<usize>,
+    shown: String,
+}
+
+impl Report {
+    /// The first table has a row for each thing compared, the columns being its answers.
+    pub fn new(name: &'static str, seed: u64, tables: Vec<Table>) -> Report {
+        let by_row = vec![0; tables[0].rows.len()];
+        Report {
+            name,
+            seed,
+            tables,
+            compared: 0,
+            different: 0,
+            by_row,
+            shown: String::new(),
+        }
+    }
+
+    /// One comparison: counts it, and keeps what `describe` says if the two differ.
+    pub fn compare(
+        &mut self,
+        index: u64,
+        row: usize,
+        answer: usize,
+        same: bool,
+        describe: impl FnOnce() -> String,
+    ) {
+        self.compared += 1;
+        self.tables[0].add(row, answer);
+        if same {
+            return;
+        }
+        self.different += 1;
+        self.by_row[row] += 1;
+        if self.by_row[row] <= SHOWN {
+            let (name, seed, what) = (self.name, self.seed, self.tables[0].rows[row]);
+            writeln!(
+                self.shown,
+                "difference in {what}, case {index} of seed {seed}"
+            )
+            .unwrap();
+            for line in describe().lines() {
+                writeln!(self.shown, "  {line}").unwrap();
+            }
+            writeln!(self.shown, "  again: tests/run {name} {seed} 1 {index}").unwrap();
+        }
+    }
+
+    /// A run that compared nothing is not good either.
+    pub fn good(&self) -> bool {
+        self.compared > 0 && self.different == 0
+    }
+
+    pub fn text(&self) -> String {
+        let mut text = String::new();
+        for table in &self.tables {
+            text.push_str(&table.text());
+        }
+        text.push_str(&self.shown);
+        for (row, count) in self.by_row.iter().enumerate() {
+            if *count > 0 {
+                let what = self.tables[0].rows[row];
+                writeln!(text, "{count} differences in {what}").unwrap();
+            }
+        }
+        writeln!(
+            text,
+            "{} of seed {}: {} compared, {} differences",
+            self.name, self.seed, self.compared, self.different
+        )
+        .unwrap();
+        text
+    }
+}
