@@ -34,12 +34,15 @@ impl Case {
         }
     }
 
-    pub fn text(&self) -> String {
-        let [left, right, condition] = self.operands.map(|it| slot::show(it, &self.memories));
-        let (digits, places) = self.literal;
-        format!(
-            "left       {left}\nright      {right}\ncondition  {condition}\nliteral    {digits} digits, {places} places"
-        )
+    /// Some of the operands, a line each.
+    pub fn show(&self, operands: &[usize]) -> String {
+        const NAMES: [&str; 3] = ["left", "right", "condition"];
+        let line = |&number: &usize| {
+            let words = self.operands[number];
+            let shown = slot::show(words, &self.memories);
+            format!("{:<10} {shown}\n", NAMES[number])
+        };
+        operands.iter().map(line).collect()
     }
 }
 
@@ -71,30 +74,39 @@ fn muddled(rng: &mut Rng, words: Words) -> Words {
         UNDEFINED | ERROR => [kind, rng.bits()],
         BOOLEAN if load != 0 => [kind, rng.bits() | 1],
         INTEGER => [kind, load | rng.bits() << 32],
-        STRING if load >> 32 != 0 => [kind, load | rng.bits() << 33],
-        STRING => [kind, rng.bits()],
+        STRING => [kind, muddled_place(rng, load)],
         _ => words,
+    }
+}
+
+/// A String's place that reaches beyond its memory, or has a side above 1, or is any place.
+fn muddled_place(rng: &mut Rng, load: u64) -> u64 {
+    match rng.below(3) {
+        0 => load | 0xFFFF,
+        1 if load >> 32 != 0 => load | rng.bits() << 33,
+        _ => rng.bits(),
     }
 }
 
 // Numbers.
 
+const EDGE_INTEGERS: [i32; 11] = [
+    i32::MIN,
+    i32::MIN + 1,
+    -65_536,
+    -2,
+    -1,
+    0,
+    1,
+    2,
+    65_536,
+    i32::MAX - 1,
+    i32::MAX,
+];
+
 fn integer(rng: &mut Rng) -> i32 {
-    const EDGES: [i32; 11] = [
-        i32::MIN,
-        i32::MIN + 1,
-        -65_536,
-        -2,
-        -1,
-        0,
-        1,
-        2,
-        65_536,
-        i32::MAX - 1,
-        i32::MAX,
-    ];
     match rng.below(3) {
-        0 => *rng.pick(&EDGES),
+        0 => *rng.pick(&EDGE_INTEGERS),
         1 => rng.between(0, 40) as i32 - 20,
         _ => rng.bits() as i32,
     }
@@ -240,7 +252,7 @@ fn close_to(rng: &mut Rng, words: Words, memories: &mut [Vec<u8>; 2]) -> Words {
     match kind {
         INTEGER => close_to_integer(rng, load as u32 as i32),
         REAL => close_to_real(rng, f64::from_bits(load)),
-        STRING if rng.chance(90) => {
+        STRING if rng.chance(95) => {
             let near = close_string(rng, Place::of(load).bytes(memories));
             place(rng, memories, &near)
         }
@@ -249,11 +261,12 @@ fn close_to(rng: &mut Rng, words: Words, memories: &mut [Vec<u8>; 2]) -> Words {
 }
 
 fn close_to_integer(rng: &mut Rng, value: i32) -> Words {
-    match rng.below(5) {
+    match rng.below(6) {
         0 => integer_words(value),
         1 => integer_words(value.wrapping_neg()),
         2 => integer_words(value.wrapping_add(rng.below(3) as i32 - 1)),
-        3 => [REAL, f64::from(value).to_bits()],
+        3 => integer_words(*rng.pick(&EDGE_INTEGERS)),
+        4 => [REAL, f64::from(value).to_bits()],
         _ => [REAL, next_real(rng, f64::from(value)).to_bits()],
     }
 }

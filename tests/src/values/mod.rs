@@ -83,7 +83,7 @@ impl<'a> Comparison<'a> {
         for (row, operator) in BinaryOperator::ALL.into_iter().enumerate() {
             let expected = self.expected(value::binary(operator, left, right));
             let got = self.library_binary(BINARY_NODE + row as u64, &self.case.operands);
-            self.compare(row, got, expected);
+            self.compare(row, got, expected, |case| case.show(&[0, 1]));
         }
     }
 
@@ -92,7 +92,7 @@ impl<'a> Comparison<'a> {
         for (number, operator) in UnaryOperator::ALL.into_iter().enumerate() {
             let expected = self.expected(value::unary(operator, operand));
             let got = library_unary(UNARY_NODE + number as u64, &self.case.operands);
-            self.compare(UNARY_ROW + number, got, expected);
+            self.compare(UNARY_ROW + number, got, expected, |case| case.show(&[0]));
         }
     }
 
@@ -102,21 +102,22 @@ impl<'a> Comparison<'a> {
         let expected = value::conditional(self.operand(2), self.operand(0), self.operand(1));
         let expected = self.expected(expected);
         let got = library_conditional(&[condition, left, right]);
-        self.compare(CONDITIONAL_ROW, got, expected);
+        self.compare(CONDITIONAL_ROW, got, expected, |case| case.show(&[2, 0, 1]));
     }
 
     /// Against the reference, and against the standard library's reading of decimals.
     fn literal(&mut self) {
         let (digits, places) = self.case.literal;
         let got = answer(|result| library::real(digits, places, result));
+        let show = |_: &Case| format!("digits     {digits}\nplaces     {places}\n");
         if digits >= 10_u64.pow(15) || places >= 15 {
-            self.compare(NO_LITERAL_ROW, got, self.expected(Value::Real(0.0)));
+            self.compare(NO_LITERAL_ROW, got, self.expected(Value::Real(0.0)), show);
             return;
         }
         let expected = value::real_literal(digits, places as u32);
-        self.compare(LITERAL_ROW, got, self.expected(expected));
+        self.compare(LITERAL_ROW, got, self.expected(expected), show);
         let read: f64 = format!("{digits}e-{places}").parse().expect("a decimal");
-        self.compare(TEXT_ROW, got, self.expected(Value::Real(read)));
+        self.compare(TEXT_ROW, got, self.expected(Value::Real(read)), show);
     }
 
     /// A number that is no operator's gives a blank slot.
@@ -128,7 +129,9 @@ impl<'a> Comparison<'a> {
         } else {
             library_unary(kind, operands)
         };
-        self.compare(NO_OPERATOR_ROW, got, [slot::BLANK, 0]);
+        self.compare(NO_OPERATOR_ROW, got, [slot::BLANK, 0], |case| {
+            format!("operator   {kind:#x}\n{}", case.show(&[0, 1]))
+        });
     }
 
     /// A blank operand gives a blank slot.
@@ -141,7 +144,9 @@ impl<'a> Comparison<'a> {
             1 => self.library_binary(BINARY_NODE + rng.below(15) as u64, &operands),
             _ => library_unary(UNARY_NODE + rng.below(3) as u64, &operands),
         };
-        self.compare(BLANK_ROW, got, [slot::BLANK, 0]);
+        self.compare(BLANK_ROW, got, [slot::BLANK, 0], |_| {
+            format!("operands   {operands:#x?}\n")
+        });
     }
 
     fn library_binary(&self, kind: u64, operands: &[Words; 3]) -> Answer {
@@ -149,23 +154,27 @@ impl<'a> Comparison<'a> {
         answer(|result| library::binary(first, second, kind, &operands.concat(), result))
     }
 
-    fn compare(&mut self, row: usize, got: Answer, expected: Words) {
+    /// `show` says what went in.
+    fn compare(
+        &mut self,
+        row: usize,
+        got: Answer,
+        expected: Words,
+        show: impl FnOnce(&Case) -> String,
+    ) {
         let case = self.case;
-        let kind = expected[0] as usize;
         let same = got.words == expected && got.rest_kept;
-        self.report.compare(self.index, row, kind, same, || {
-            let memories = &case.memories;
+        let answer = expected[0] as usize;
+        self.report.compare(self.index, row, answer, same, || {
+            let shown = [got.words, expected].map(|words| slot::show(words, &case.memories));
             let rest = if got.rest_kept {
                 ""
             } else {
-                "\nthe library changed words behind the result"
+                ", and words behind it changed"
             };
-            format!(
-                "{}\nlibrary    {}\nexpected   {}{rest}",
-                case.text(),
-                slot::show(got.words, memories),
-                slot::show(expected, memories)
-            )
+            let [library, reference] = shown;
+            let input = show(case);
+            format!("{input}library    {library}{rest}\nreference  {reference}")
         });
     }
 }
