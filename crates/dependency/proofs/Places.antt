@@ -10,7 +10,7 @@ use lib.Dec.{ltb}
 use Rattle.graph.specs.Laws.Members.{ltb-yes, ltb-no, eqb-yes, eqb-no}
 use Rattle.graph.specs.declared.Place.{Place}
 use Rattle.graph.specs.declared.Place.the-variants.{Resolving, Between, Inside}
-use Rattle.links.specs.Stored.{nodeCount}
+use Rattle.ad.specs.Stored.{nodeCount}
 use Rattle.links.specs.Pair.{Stands}
 use Rattle.marks.specs.Memory.{marksRoom}
 use Rattle.dependency.specs.Traversal.{PlaceFits, lookupOf, foundAt}

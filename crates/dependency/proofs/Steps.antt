@@ -9,7 +9,7 @@ use lib.ListN.{length, getD}
 use lib.Dec.{eqb, ltb}
 use Rattle.graph.specs.Graph.{Graph, Node, Sound}
 use Rattle.graph.specs.Transition.{flags, stampOf, searches, start, led, goes, marked}
-use Rattle.links.specs.Stored.{nodeCount, definitionCount}
+use Rattle.ad.specs.Stored.{nodeCount, definitionCount}
 use Rattle.links.specs.Pair.{pairGraph, Formed, Measured, Stands}
 use Rattle.links.specs.Laws.Soundness.{pair-sound}
 use Rattle.graph.specs.Members.{numbers, raised}

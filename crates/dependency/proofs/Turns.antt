@@ -18,7 +18,7 @@ use Rattle.graph.specs.Laws.Traversal.{Ends, traverse}
 use Rattle.graph.specs.Laws.Progress.{PlaceOK, Valid, valid-transitions, valid-first, transitions-suc, total, before-end, over-at, room-at, taken, pending, Awake, awake-next}
 use Rattle.graph.specs.declared.Place.{Place}
 use Rattle.graph.specs.declared.Place.the-variants.{Resolving, Between, Inside}
-use Rattle.links.specs.Stored.{nodeCount, definitionCount}
+use Rattle.ad.specs.Stored.{nodeCount, definitionCount}
 use Rattle.links.specs.Pair.{pairGraph, Formed, Measured, Stands}
 use Rattle.links.specs.Laws.Counting.{nodes-few}
 use Rattle.links.specs.Laws.Soundness.{pair-sound}

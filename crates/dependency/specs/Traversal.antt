@@ -10,7 +10,7 @@ use Rattle.graph.specs.Graph.{Graph, Flags, IsList}
 use Rattle.graph.specs.Transition.{searches, unmarked, transitions, first, Ended}
 use Rattle.graph.specs.declared.Place.{Place}
 use Rattle.graph.specs.declared.Place.the-variants.{Resolving, Between, Inside}
-use Rattle.links.specs.Stored.{nodeCount}
+use Rattle.ad.specs.Stored.{nodeCount}
 use Rattle.links.specs.Pair.{Formed, Stands}
 use Rattle.marks.specs.Memory.{view, marksRoom, Roomy, Cleared}
 use Rattle.dependency.specs.declared.Lookup.{Lookup}

@@ -8,7 +8,7 @@ ghost use Prim.Native.Nat.{ℕ, _+_, _≤_, _<_};
 ghost use lib.ListN.{length, getD};
 ghost use Rattle.graph.specs.Transition.{transition};
 ghost use Rattle.graph.specs.declared.Place.the-variants.{Resolving, Between, Inside};
-ghost use Rattle.links.specs.Stored.{nodeCount};
+ghost use Rattle.ad.specs.Stored.{nodeCount};
 ghost use Rattle.links.specs.Pair.{pairGraph, Measured, Stands};
 ghost use Rattle.marks.specs.Memory.{view, Roomy, Grows};
 ghost use Rattle.dependency.specs.Traversal.{PlaceFits};

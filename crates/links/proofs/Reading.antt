@@ -14,7 +14,7 @@ use Rattle.text.specs.Strings.{sameName}
 use Rattle.syntax.specs.Bounds.{maxNodes, maxDefinitions}
 use Rattle.graph.specs.Laws.Members.{eqb-yes, eqb-no, ltb-yes, ltb-no}
 use Rattle.graph.specs.Transition.{marked}
-use Rattle.links.specs.Stored.{leading, kindAt, lengthAt, offsetAt, rootAt, bytesAt, nodeCount, definitionCount, arity, isReference, findFrom, find}
+use Rattle.ad.specs.Stored.{leading, kindAt, lengthAt, offsetAt, rootAt, bytesAt, nodeCount, definitionCount, arity, isReference, findFrom, find}
 use Rattle.links.specs.Pair.{numbered, Formed}
 use Rattle.links.specs.Laws.Counting.{leading-more, leading-stop, nodes-few, definitions-few}
 

@@ -15,7 +15,7 @@ use Rattle.ad.specs.Layout.{binaryKind, scopeKind, literalNode, literalBytes, e
 use Rattle.graph.specs.Members.{_∈_, here, there}
 use Rattle.graph.specs.Laws.Members.{mem-nil, mem-cons, ltb-yes}
 use Rattle.graph.specs.Graph.{Graph, Path⁺, one, more, Circular}
-use Rattle.links.specs.Stored.{kindAt, nameAt, isReference, nodeCount, definitionCount, operands, arity, find, findFrom}
+use Rattle.ad.specs.Stored.{kindAt, nameAt, isReference, nodeCount, definitionCount, operands, arity, find, findFrom}
 use Rattle.links.specs.Pair.{linksFrom, numbered, linked, both, pairGraph, Stands, Named}
 use Rattle.links.specs.Laws.Soundness.{both-low}
 use Rattle.links.specs.Laws.Numbering.{links-own, links-operator, ref-is}
@@ -85,43 +85,43 @@ operator-link : (i : ℕ) → i < 5 → isReference (kindAt W i) ≡ false → w
 operator-link i h e = side i h ∙ links-operator W B (storedWords []) (storedBytes []) false i (let f = five in omega arith) e
 
 kind-0 : kindAt W 0 ≡ 7
-unfolding W B w11 defined-as storedWords storedBytes adNodes adBytes exprNodes exprBytes literalNode literalBytes scopeKind binaryKind size bytes
+unfolding W B w11 defined-as storedWords storedBytes adNodes adBytes exprNodes exprBytes literalNode literalBytes scopeKind size bytes
 kind-0 = refl
 
 name-0 : nameAt W B 0 ≡ bytes "b"
-unfolding W B w11 defined-as storedWords storedBytes adNodes adBytes exprNodes exprBytes literalNode literalBytes scopeKind binaryKind size bytes
+unfolding W B w11 defined-as storedWords storedBytes adNodes adBytes exprNodes exprBytes literalNode literalBytes scopeKind size bytes
 name-0 = refl
 
 kind-1 : kindAt W 1 ≡ 7
-unfolding W B w11 defined-as storedWords storedBytes adNodes adBytes exprNodes exprBytes literalNode literalBytes scopeKind binaryKind size bytes
+unfolding W B w11 defined-as storedWords storedBytes adNodes adBytes exprNodes exprBytes literalNode literalBytes scopeKind size bytes
 kind-1 = refl
 
 name-1 : nameAt W B 1 ≡ bytes "a"
-unfolding W B w11 defined-as storedWords storedBytes adNodes adBytes exprNodes exprBytes literalNode literalBytes scopeKind binaryKind size bytes
+unfolding W B w11 defined-as storedWords storedBytes adNodes adBytes exprNodes exprBytes literalNode literalBytes scopeKind size bytes
 name-1 = refl
 
 kind-4 : kindAt W 4 ≡ 7
-unfolding W B w11 defined-as storedWords storedBytes adNodes adBytes exprNodes exprBytes literalNode literalBytes scopeKind binaryKind size bytes
+unfolding W B w11 defined-as storedWords storedBytes adNodes adBytes exprNodes exprBytes literalNode literalBytes scopeKind size bytes
 kind-4 = refl
 
 name-4 : nameAt W B 4 ≡ bytes "b"
-unfolding W B w11 defined-as storedWords storedBytes adNodes adBytes exprNodes exprBytes literalNode literalBytes scopeKind binaryKind size bytes
+unfolding W B w11 defined-as storedWords storedBytes adNodes adBytes exprNodes exprBytes literalNode literalBytes scopeKind size bytes
 name-4 = refl
 
 kind-2 : isReference (kindAt W 2) ≡ false
-unfolding W B w11 defined-as storedWords storedBytes adNodes adBytes exprNodes exprBytes literalNode literalBytes scopeKind binaryKind size bytes
+unfolding W B w11 defined-as storedWords storedBytes adNodes adBytes exprNodes exprBytes literalNode literalBytes scopeKind size bytes
 kind-2 = refl
 
 kind-3 : isReference (kindAt W 3) ≡ false
-unfolding W B w11 defined-as storedWords storedBytes adNodes adBytes exprNodes exprBytes literalNode literalBytes scopeKind binaryKind size bytes
+unfolding W B w11 defined-as storedWords storedBytes adNodes adBytes exprNodes exprBytes literalNode literalBytes scopeKind size bytes
 kind-3 = refl
 
 found-a : find W B (bytes "a") ≡ 0 ∷ []
-unfolding W B w11 defined-as storedWords storedBytes adNodes adBytes exprNodes exprBytes literalNode literalBytes scopeKind binaryKind size bytes sameName sameBytes lowerCase
+unfolding W B w11 defined-as storedWords storedBytes adNodes adBytes exprNodes exprBytes literalNode literalBytes scopeKind size bytes sameName sameBytes lowerCase
 found-a = roots-of (bytes "a")
 
 found-b : find W B (bytes "b") ≡ 3 ∷ []
-unfolding W B w11 defined-as storedWords storedBytes adNodes adBytes exprNodes exprBytes literalNode literalBytes scopeKind binaryKind size bytes sameName sameBytes lowerCase
+unfolding W B w11 defined-as storedWords storedBytes adNodes adBytes exprNodes exprBytes literalNode literalBytes scopeKind size bytes sameName sameBytes lowerCase
 found-b = roots-of (bytes "b")
 
 links-0 : w11-graph .links 0 ≡ 3 ∷ []
@@ -134,11 +134,11 @@ links-4 : w11-graph .links 4 ≡ 3 ∷ []
 links-4 = reference-link 4 (omega arith) kind-4 ∙ ap (λ (l : List ℕ). map (numbered false) (find W B l)) name-4 ∙ ap (map (numbered false)) found-b
 
 operands-2 : operands W 2 ≡ []
-unfolding W B w11 defined-as storedWords storedBytes adNodes adBytes exprNodes exprBytes literalNode literalBytes scopeKind binaryKind size bytes operands arity
+unfolding W B w11 defined-as storedWords storedBytes adNodes adBytes exprNodes exprBytes literalNode literalBytes scopeKind size bytes operands arity
 operands-2 = refl
 
 operands-3 : operands W 3 ≡ 1 ∷ 2 ∷ []
-unfolding W B w11 defined-as storedWords storedBytes adNodes adBytes exprNodes exprBytes literalNode literalBytes scopeKind binaryKind size bytes operands arity
+unfolding W B w11 defined-as storedWords storedBytes adNodes adBytes exprNodes exprBytes literalNode literalBytes scopeKind size bytes operands arity
 operands-3 = refl
 
 links-2 : w11-graph .links 2 ≡ []

@@ -1,4 +1,3 @@
-pub mod Stored
 pub mod Pair
 pub mod Laws
 pub mod Examples

@@ -13,7 +13,7 @@ use Rattle.syntax.specs.Tree.{Definition, Ad, nodes}
 use Rattle.ad.specs.Layout.{adWords, storedWords, storedBytes}
 use Rattle.graph.specs.Members.{_∈_, Each}
 use Rattle.graph.specs.Graph.{Graph}
-use Rattle.links.specs.Stored.{kindAt, nodeCount, definitionCount, isOwn, isOther, isReference, operands, nameAt, rootAt, find, rootsFrom}
+use Rattle.ad.specs.Stored.{kindAt, nodeCount, definitionCount, isOwn, isOther, isReference, operands, nameAt, rootAt, find, rootsFrom}
 
 -- A link as it is said from its own side: whether it goes to the other ad, and to which node there.
 abbrev pub Link : Type 0

@@ -9,7 +9,7 @@ ghost use Prim.Native.Nat.{ℕ, _+_, _-_, _≤_, _<_};
 ghost use lib.ListN.{length, getD, take};
 ghost use lib.Dec.{eqb, ltb};
 ghost use Rattle.graph.specs.Transition.{flags, start, led, goes, marked};
-ghost use Rattle.links.specs.Stored.{kindAt, operandAt, nodeCount, isReference, find};
+ghost use Rattle.ad.specs.Stored.{kindAt, operandAt, nodeCount, isReference, find};
 ghost use Rattle.links.specs.Pair.{numbered, linked, linksFrom, both, pairGraph, Formed, Measured, Stands};
 ghost use Rattle.graph.specs.Members.{numbers, raised};
 

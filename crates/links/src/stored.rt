@@ -5,7 +5,7 @@ ghost use Prim.Native.Nat.{ℕ, _+_, _≤_, _<_};
 ghost use lib.ListN.{length};
 ghost use Rattle.text.specs.Strings.{sameName};
 ghost use Rattle.graph.specs.Transition.{marked};
-ghost use Rattle.links.specs.Stored.{kindAt, operandAt, offsetAt, lengthAt, rootAt, nodeCount, definitionCount, bytesAt, nameAt, arity, isReference, find};
+ghost use Rattle.ad.specs.Stored.{kindAt, operandAt, offsetAt, lengthAt, rootAt, nodeCount, definitionCount, bytesAt, nameAt, arity, isReference, find};
 ghost use Rattle.links.specs.Pair.{numbered, Formed};
 
 const NODES: usize = 1024;

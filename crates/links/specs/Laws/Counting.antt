@@ -13,7 +13,7 @@ use Rattle.text.specs.Strings.{sameName}
 use Rattle.syntax.specs.Bounds.{maxNodes, maxDefinitions}
 use Rattle.graph.specs.Members.{_∈_, here, there, Each}
 use Rattle.graph.specs.Laws.Members.{mem-nil, mem-cons, mem-cast, eqb-yes, eqb-no}
-use Rattle.links.specs.Stored.{leading, nodeCount, definitionCount, kindAt, operandAt, offsetAt, lengthAt, rootAt, bytesAt, findFrom, find, rootsFrom, operands, arity}
+use Rattle.ad.specs.Stored.{leading, nodeCount, definitionCount, kindAt, operandAt, offsetAt, lengthAt, rootAt, bytesAt, findFrom, find, rootsFrom, operands, arity}
 
 -- ---- what stands before the first 0
 

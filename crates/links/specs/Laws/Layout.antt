@@ -18,7 +18,7 @@ use Rattle.ad.specs.Layout.{unaryKind, binaryKind, scopeKind, node, literalNode
 use Rattle.graph.specs.Members.{_∈_, Each}
 use Rattle.graph.specs.Laws.Members.{mem-nil, mem-cons}
 use Rattle.graph.specs.Graph.{Sound}
-use Rattle.links.specs.Stored.{leading, kindAt, operandAt, nodeCount, definitionCount, lengthAt, rootAt, operands, arity}
+use Rattle.ad.specs.Stored.{leading, kindAt, operandAt, nodeCount, definitionCount, lengthAt, rootAt, operands, arity}
 use Rattle.links.specs.Pair.{Formed, Named, StoredAd, pairGraph}
 use Rattle.links.specs.Laws.Counting.{leading-is}
 use Rattle.links.specs.Laws.Soundness.{pair-sound}
@@ -80,13 +80,13 @@ reference-nodes n o m own = one-node 7 o m 0 (λ e. omega arith) each-none
 reference-nodes n o m other = one-node 8 o m 0 (λ e. omega arith) each-none
 
 unary-nodes : (n a : ℕ) (u : Unary) → a < n → Nodes n (node (unaryKind u) a 0 0) 1
-unfolding unaryKind arity
+unfolding arity
 unary-nodes n a Not h = one-node 9 a 0 0 (λ e. omega arith) (each-cons h each-none)
 unary-nodes n a Plus h = one-node 10 a 0 0 (λ e. omega arith) (each-cons h each-none)
 unary-nodes n a Minus h = one-node 11 a 0 0 (λ e. omega arith) (each-cons h each-none)
 
 binary-nodes : (n a b : ℕ) (j : Binary) → a < n → b < n → Nodes n (node (binaryKind j) a b 0) 1
-unfolding binaryKind arity
+unfolding arity
 binary-nodes n a b Or h k = one-node 13 a b 0 (λ e. omega arith) (each-cons h (each-cons k each-none))
 binary-nodes n a b And h k = one-node 14 a b 0 (λ e. omega arith) (each-cons h (each-cons k each-none))
 binary-nodes n a b Equal h k = one-node 15 a b 0 (λ e. omega arith) (each-cons h (each-cons k each-none))

@@ -15,7 +15,7 @@ use Rattle.graph.specs.Members.{_∈_}
 use Rattle.graph.specs.Laws.Members.{eqb-yes, eqb-no, ltb-yes, ltb-no, ltb-true, at-mem}
 use Rattle.graph.specs.Graph.{Graph}
 use Rattle.graph.specs.Transition.{flags, stampOf, searches, start, led, goes, marked, unmarked}
-use Rattle.links.specs.Stored.{kindAt, operandAt, rootAt, nameAt, nodeCount, definitionCount, arity, operands, isOwn, isOther, isReference, find, rootsFrom}
+use Rattle.ad.specs.Stored.{kindAt, operandAt, rootAt, nameAt, nodeCount, definitionCount, arity, operands, isOwn, isOther, isReference, find, rootsFrom}
 use Rattle.links.specs.Pair.{numbered, linked, inside, across, linksFrom, refersAt, both, pairGraph, Formed, Measured, Stands}
 use Rattle.links.specs.Laws.Counting.{nodes-few, definitions-few, arity-few, roots-length, roots-at}
 use Rattle.links.specs.Laws.Soundness.{both-low, both-high}

@@ -15,7 +15,7 @@ use Rattle.graph.specs.Graph.{Graph, Node}
 use Rattle.graph.specs.Transition.{marked}
 use Rattle.graph.specs.declared.Place.{Place}
 use Rattle.graph.specs.declared.Place.the-variants.{Resolving, Between, Inside}
-use Rattle.links.specs.Stored.{nodeCount, find}
+use Rattle.ad.specs.Stored.{nodeCount, find}
 use Rattle.links.specs.Pair.{numbered, rootsOf, requirements, rank, pairGraph, Measured, Stands}
 use Rattle.links.specs.Laws.Counting.{found-few}
 use Rattle.links.specs.Laws.Soundness.{pair-sound}

@@ -13,7 +13,7 @@ use Rattle.syntax.specs.Bounds.{maxNodes, maxDefinitions}
 use Rattle.graph.specs.Members.{_∈_, here, there, Each, Distinct, Room}
 use Rattle.graph.specs.Laws.Members.{mem-nil, mem-cons, mem-cast, mem-left, mem-right, mem-append, eqb-yes, eqb-no, ltb-yes, ltb-no, ltb-true, Sides, room-sides}
 use Rattle.graph.specs.Graph.{Graph, Node, Sound}
-use Rattle.links.specs.Stored.{kindAt, nodeCount, definitionCount, isOwn, isOther, isReference, operands, nameAt, rootAt, find, rootsFrom, arity}
+use Rattle.ad.specs.Stored.{kindAt, nodeCount, definitionCount, isOwn, isOther, isReference, operands, nameAt, rootAt, find, rootsFrom, arity}
 use Rattle.links.specs.Pair.{Link, numbered, linked, inside, across, linksFrom, refersAt, both, rootsOf, requirements, rank, pairGraph, Formed}
 use Rattle.links.specs.Laws.Counting.{nodes-few, definitions-few, roots-length, roots-each, found-few, found-root, map-each, map-from, map-in, arity-few}
 

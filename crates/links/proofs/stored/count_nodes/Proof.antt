@@ -1,7 +1,7 @@
 use borrow.Author.Needs.{needs}
 use mathlib.Core.Path.{sym, _∙_}
 use Prim.Native.Nat.{_-_}
-use Rattle.links.specs.Stored.{kindAt}
+use Rattle.ad.specs.Stored.{kindAt}
 use Rattle.links.proofs.Reading.{Counted, counted-first, counted-next, counted-stop, counted-end, nodes-are}
 use Rattle.links.proofs.stored.count_nodes.Statement.{statement}
 use Rattle.links.proofs.stored.count_nodes.Tie as tie
