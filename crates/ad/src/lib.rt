@@ -6,7 +6,7 @@ ghost use lib.ListN.{length, replicate};
 ghost use lib.Seq.{sets, slice};
 ghost use Rattle.text.specs.Strings.{sameName};
 ghost use Rattle.ad.specs.Layout.{node};
-ghost use Rattle.ad.specs.Stored.{offsetAt, lengthAt, bytesAt};
+ghost use Rattle.ad.specs.Stored.{kindAt, operandAt, offsetAt, lengthAt, rootAt, bytesAt};
 
 // The room of an ad: 1,024 nodes of four words, behind them 256 definitions of three, and 16,384 bytes.
 pub const NODE_WORDS: usize = 4096;
@@ -20,6 +20,30 @@ fn index(x: u64) -> usize
     ensures { λ r. ⌜ r ≡ x ⌝ }
 {
     x as usize
+}
+
+// The kind of node i.
+pub fn kind(words: &[u64], i: usize) -> u64
+    requires { ⌜ (i < 1024) × (4864 ≤ length (now words)) ⌝ }
+    ensures { λ r. ⌜ r ≡ kindAt (now (words .entry)) i ⌝ }
+{
+    words[4 * i]
+}
+
+// Node i's operand or datum j.
+pub fn operand(words: &[u64], i: usize, j: usize) -> usize
+    requires { ⌜ (i < 1024) × (j < 3) × (4864 ≤ length (now words)) ⌝ }
+    ensures { λ r. ⌜ r ≡ operandAt (now (words .entry)) i j ⌝ }
+{
+    index(words[4 * i + 1 + j])
+}
+
+// The root of definition j.
+pub fn root(words: &[u64], j: usize) -> usize
+    requires { ⌜ (j < 256) × (4864 ≤ length (now words)) ⌝ }
+    ensures { λ r. ⌜ r ≡ rootAt (now (words .entry)) j ⌝ }
+{
+    index(words[NODE_WORDS + 3 * j + 2])
 }
 
 // The offset of the name of definition j.

@@ -39,9 +39,9 @@ fn kind_of(v: &[u64], w: &[u64], x: usize) -> u64
     ensures { λ r. ⌜ r ≡ both (kindAt (now (v .entry))) (kindAt (now (w .entry))) x ⌝ }
 {
     if x < NODES {
-        return stored::kind(v, x);
+        return ad::kind(v, x);
     }
-    stored::kind(w, x - NODES)
+    ad::kind(w, x - NODES)
 }
 
 // The number of the node x's operand i.
@@ -50,9 +50,9 @@ fn operand_of(v: &[u64], w: &[u64], x: usize, i: usize) -> usize
     ensures { λ r. ⌜ r ≡ both (λ j. operandAt (now (v .entry)) j i) (λ j. 1024 + operandAt (now (w .entry)) j i) x ⌝ }
 {
     if x < NODES {
-        return stored::operand(v, x, i);
+        return ad::operand(v, x, i);
     }
-    NODES + stored::operand(w, x - NODES, i)
+    NODES + ad::operand(w, x - NODES, i)
 }
 
 // How many nodes x leads to, by its marks.
@@ -115,11 +115,11 @@ pub fn start_of(v: &[u64], w: &[u64], p: Counts, q: Counts, roots: &[usize], k: 
 {
     let d = p.definitions;
     if k < d {
-        return stored::root(v, k);
+        return ad::root(v, k);
     }
     let j = k - d;
     if j < q.definitions {
-        return NODES + stored::root(w, j);
+        return NODES + ad::root(w, j);
     }
     let i = j - q.definitions;
     roots[i]
@@ -195,7 +195,7 @@ fn found_from(
     requires own { ⌜ Measured (now words) (nodeCount (now words)) d × Measured (now others) (nodeCount (now others)) e × (i < nodeCount (now words)) ⌝ }
     ensures { λ r. ⌜ r ≡ cond (isReference (kindAt (now (words .entry)) i)) (marked (map (linked second) (linksFrom (now (words .entry)) (now (bytes .entry)) (now (others .entry)) (now (names .entry)) i))) 0 ⌝ }
 {
-    let kind = stored::kind(words, i);
+    let kind = ad::kind(words, i);
     if kind == 7 {
         let name = stored::name(words, bytes, i);
         return stored::find_name(words, bytes, d, name, second);

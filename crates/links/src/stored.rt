@@ -14,48 +14,6 @@ const DEFINITIONS: usize = 256;
 
 const NODE_WORDS: usize = 4096;
 
-// A word as an index.
-fn index(x: u64) -> usize
-    ensures { λ r. ⌜ r ≡ x ⌝ }
-{
-    x as usize
-}
-
-pub fn kind(words: &[u64], i: usize) -> u64
-    requires { ⌜ (i < 1024) × (4864 ≤ length (now words)) ⌝ }
-    ensures { λ r. ⌜ r ≡ kindAt (now (words .entry)) i ⌝ }
-{
-    words[4 * i]
-}
-
-pub fn operand(words: &[u64], i: usize, j: usize) -> usize
-    requires { ⌜ (i < 1024) × (j < 3) × (4864 ≤ length (now words)) ⌝ }
-    ensures { λ r. ⌜ r ≡ operandAt (now (words .entry)) i j ⌝ }
-{
-    index(words[4 * i + 1 + j])
-}
-
-fn offset(words: &[u64], j: usize) -> usize
-    requires { ⌜ (j < 256) × (4864 ≤ length (now words)) ⌝ }
-    ensures { λ r. ⌜ r ≡ offsetAt (now (words .entry)) j ⌝ }
-{
-    index(words[NODE_WORDS + 3 * j])
-}
-
-fn name_length(words: &[u64], j: usize) -> usize
-    requires { ⌜ (j < 256) × (4864 ≤ length (now words)) ⌝ }
-    ensures { λ r. ⌜ r ≡ lengthAt (now (words .entry)) j ⌝ }
-{
-    index(words[NODE_WORDS + 3 * j + 1])
-}
-
-pub fn root(words: &[u64], j: usize) -> usize
-    requires { ⌜ (j < 256) × (4864 ≤ length (now words)) ⌝ }
-    ensures { λ r. ⌜ r ≡ rootAt (now (words .entry)) j ⌝ }
-{
-    index(words[NODE_WORDS + 3 * j + 2])
-}
-
 // How many operands a node of this kind has.
 pub fn operands(kind: u64) -> usize
     ensures { λ r. ⌜ r ≡ arity kind ⌝ }
@@ -90,7 +48,7 @@ pub fn count_nodes(words: &[u64]) -> usize
 {
     let mut i: usize = 0;
     while i < NODES {
-        if kind(words, i) == 0 {
+        if ad::kind(words, i) == 0 {
             return i;
         }
         i += 1;
@@ -104,7 +62,7 @@ pub fn count_definitions(words: &[u64]) -> usize
 {
     let mut j: usize = 0;
     while j < DEFINITIONS {
-        if name_length(words, j) == 0 {
+        if ad::name_length(words, j) == 0 {
             return j;
         }
         j += 1;
@@ -112,38 +70,14 @@ pub fn count_definitions(words: &[u64]) -> usize
     j
 }
 
-// The bytes from a place on, cut to what the memory holds.
-fn part(bytes: &[u8], at: usize, len: usize) -> &[u8]
-    ensures { λ r. ⌜ now r ≡ bytesAt (now (bytes .entry)) at len ⌝ }
-{
-    if bytes.len() <= at {
-        return &bytes[bytes.len()..];
-    }
-    if len <= bytes.len() - at {
-        let end = at + len;
-        return &bytes[at..end];
-    }
-    &bytes[at..]
-}
-
 // The name of the reference i.
 pub fn name<'a>(words: &[u64], bytes: &'a [u8], i: usize) -> &'a [u8]
     requires { ⌜ (i < 1024) × (4864 ≤ length (now words)) ⌝ }
     ensures { λ r. ⌜ now r ≡ nameAt (now (words .entry)) (now (bytes .entry)) i ⌝ }
 {
-    let at = operand(words, i, 0);
-    let len = operand(words, i, 1);
-    part(bytes, at, len)
-}
-
-// Whether definition j has this name.
-fn has_name(words: &[u64], bytes: &[u8], j: usize, name: &[u8]) -> bool
-    requires { ⌜ (j < 256) × (4864 ≤ length (now words)) ⌝ }
-    ensures { λ r. ⌜ r ≡ sameName (bytesAt (now (bytes .entry)) (offsetAt (now (words .entry)) j) (lengthAt (now (words .entry)) j)) (now (name .entry)) ⌝ }
-{
-    let at = offset(words, j);
-    let len = name_length(words, j);
-    text::same_name(part(bytes, at, len), name)
+    let at = ad::operand(words, i, 0);
+    let len = ad::operand(words, i, 1);
+    ad::part(bytes, at, len)
 }
 
 // One more than the number of a root; those of the second ad come after those of the first.
@@ -164,8 +98,8 @@ pub fn find_name(words: &[u64], bytes: &[u8], d: usize, name: &[u8], second: boo
 {
     let mut j: usize = 0;
     while j < d {
-        if has_name(words, bytes, j, name) {
-            return marked_root(root(words, j), second);
+        if ad::has_name(words, bytes, j, name) {
+            return marked_root(ad::root(words, j), second);
         }
         j += 1;
     }
