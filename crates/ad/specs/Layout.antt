@@ -105,7 +105,7 @@ adDefinitions n o (d ∷ ds) =
 
 -- ---- the whole memory of an ad
 
--- 'room for 1,024 nodes, 256 definitions ..': the nodes' words, then those of the definitions
+-- 'room for 1,024 nodes, 256 definitions ..': the nodes' words, 4 · 1,024, then those of the definitions, 3 · 256
 abbrev pub nodeWords : ℕ
 nodeWords = 4096
 

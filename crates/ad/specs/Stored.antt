@@ -14,7 +14,7 @@ unfoldable pub leading : (ℕ → ℕ) → ℕ → ℕ → ℕ
 leading f i zero = 0
 leading f i (suc k) = cond (eqb (f i) 0) 0 (suc (leading f (suc i) k))
 
--- the kind of node i: 'no kind is 0'
+-- the kind of node i; no kind is 0
 abbrev pub kindAt : List ℕ → ℕ → ℕ
 kindAt w i = getD w (4 * i) 0
 
@@ -22,7 +22,7 @@ kindAt w i = getD w (4 * i) 0
 abbrev pub operandAt : List ℕ → ℕ → ℕ → ℕ
 operandAt w i j = getD w (4 * i + 1 + j) 0
 
--- how many nodes are stored: 'counts follow from the content'
+-- how many nodes are stored: the counts follow from the content (docs/LAYOUT.md)
 unfoldable pub nodeCount : List ℕ → ℕ
 nodeCount w = leading (kindAt w) 0 maxNodes
 

@@ -14,6 +14,7 @@ abbrev pub Agrees : List ℕ → Mark → Memory → Memory → Parsed → Read 
 Agrees s m w w′ p (Done q n k) = (e : Expr) × (p ≡ ok e (tokensAt s q)) × (mark n k ≡ past m e) × (w′ ≡ written w m e)
 Agrees s m w w′ p (Refused k q) = p ≡ refused k q
 
+-- where the reader is behind what it read
 abbrev pub Within : List ℕ → ℕ → ℕ → Mark → ℕ → Read → Type 0
 Within s at t m o (Done q n k) = Inside s at t m o q n k
 Within s at t m o (Refused k q) = Unit {0}

@@ -115,6 +115,7 @@ LeafOk s at m o w w′ (Done q n k) = (e : Expr) × ((f d : ℕ) → primaryAt l
 LeafOk s at m o w w′ (Refused k p) = (f d : ℕ) → primaryAt limits (suc f) (tokensAt s at) d (m .nodes + o) ≡ refused k p
 LeafOk s at m o w w′ (Open p q) = (f d : ℕ) → primaryAt limits (suc f) (tokensAt s at) d (m .nodes + o) ≡ level d p (λ _. after (conditionalAt limits f (tokensAt s q) (d + 1) (m .nodes + o)) (λ e u. want (symbol CloseParenthesis) u (λ v. ok e v)))
 
+-- where the reader is behind a literal or reference, or behind the parenthesis
 abbrev pub LeafWithin : List ℕ → ℕ → Mark → ℕ → Memory → Memory → Leaf → Type 0
 LeafWithin s at m o w w′ (Done q n k) = Inside s at 1 m o q n k
 LeafWithin s at m o w w′ (Refused k p) = Unit {0}

@@ -54,9 +54,11 @@ pub record Holds (d : ℕ) (m : Mark) (w : Memory) (v : Memory) (a : Ad) : Type 
   pub memory-of : w ≡ storedIn v a
   pub short : m .bytes ≤ length (v .bytes)
 
+-- 'definitions `name = expression` parted by `;`', from `]` or a Name on: the answer of `definitionsAt`
 abbrev pub DefinitionsOk : List ℕ → ℕ → ℕ → Mark → Memory → Memory → Answer → Type 0
 DefinitionsOk s at d m w w′ r = (f : ℕ) → left s at < f → (a : Ad) (v : Memory) → Holds d m w v a → AgreesAd v w′ (definitionsAt limits f (tokensAt s at) a (m .nodes)) r
 
+-- from `;` or `]` on, behind a definition: the answer of `behindAt`
 abbrev pub BehindOk : List ℕ → ℕ → ℕ → Mark → Memory → Memory → Answer → Type 0
 BehindOk s at d m w w′ r = (f : ℕ) → left s at < f → (a : Ad) (v : Memory) → Holds d m w v a → AgreesAd v w′ (behindAt limits f (tokensAt s at) a (m .nodes)) r
 
@@ -69,6 +71,7 @@ EndOk s at d n (Refused k p) = (a : Ad) → endA (tokensAt s at) a ≡ R.denied 
 abbrev pub definitionAt : Tokens → List ℕ → ℕ → Ad → ℕ → (Expr → Tokens → R.Answer) → R.Answer
 definitionAt u w p a c go = admit limits w p a (λ _. wantA (symbol Assign) u (λ x. afterA (conditionalAt limits (enough x) x 0 c) go))
 
+-- an ad of one definition
 abbrev pub one : List ℕ → Expr → Ad
 one w e = record { name = w; expression = e } ∷ []
 
@@ -79,6 +82,7 @@ DefinitionOk s p q d m w w′ (E.Done r n k) =
     (e : Expr) × ((go : Expr → Tokens → R.Answer) → definitionAt (tokensAt s q) (slice p q s) p a (m .nodes) go ≡ go e (tokensAt s r)) × (n ≡ m .nodes + size e) × Holds (d + 1) (mark n k) w′ v (a ++ one (slice p q s) e)
 DefinitionOk s p q d m w w′ (E.Refused x y) = (a : Ad) (v : Memory) → Holds d m w v a → (go : Expr → Tokens → R.Answer) → definitionAt (tokensAt s q) (slice p q s) p a (m .nodes) go ≡ R.denied x y
 
+-- where the reader is behind a definition
 abbrev pub DefinitionWithin : List ℕ → ℕ → ℕ → Read → Type 0
 DefinitionWithin s q d (E.Done r n k) = (q ≤ r) × (r ≤ length s) × (n ≤ 1024) × (d < 256) × (k ≤ r) × (left s r + 1 ≤ left s q)
 DefinitionWithin s q d (E.Refused x y) = Unit {0}

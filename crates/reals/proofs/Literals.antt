@@ -7,11 +7,11 @@ use lib.IntN.{pos}
 use lib.Ieee.{binary64, fits, ofInt}
 use lib.Ieee.Fits.{cond-fits, round-fits, ofInt-fits}
 use borrow.Author.Tests.{lt-ltb}
-use Rattle.reals.specs.Reals.{literalReal, isLiteral, storedReal}
+use Rattle.reals.specs.Reals.{literalReal, inRange, storedReal}
 
 pub stored-literal : (digits places : ℕ) → digits < 10 ^ 15 → places < 15 → storedReal digits places ≡ literalReal digits places
 stored-literal digits places h k = rw (lt-ltb digits (10 ^ 15) h, lt-ltb places 15 k)
 
 pub stored-fits : (digits places : ℕ) → T (fits binary64 (storedReal digits places))
 stored-fits digits places =
-    cond-fits binary64 (isLiteral digits places) (literalReal digits places) (ofInt binary64 (pos 0)) (round-fits binary64 false digits (10 ^ places)) (ofInt-fits binary64 (pos 0))
+    cond-fits binary64 (inRange digits places) (literalReal digits places) (ofInt binary64 (pos 0)) (round-fits binary64 false digits (10 ^ places)) (ofInt-fits binary64 (pos 0))

@@ -10,13 +10,14 @@ use Rattle.integers.specs.Integers.{signed}
 abbrev pub literalReal : ℕ → ℕ → Float
 literalReal digits places = round binary64 false digits (10 ^ places)
 
--- 'at most 15 digits in all', of which at least one stands before the point
-abbrev pub isLiteral : ℕ → ℕ → Bool
-isLiteral digits places = ltb digits (10 ^ 15) && ltb places 15
+-- 'at most 15 digits in all', of which at least one stands before the point: what a literal's numbers never pass (its places
+-- are 1 at least)
+abbrev pub inRange : ℕ → ℕ → Bool
+inRange digits places = ltb digits (10 ^ 15) && ltb places 15
 
--- the Real of any two stored numbers: where no literal has them, 0.0
+-- the Real of any two stored numbers, 0.0 beyond that range
 abbrev pub storedReal : ℕ → ℕ → Float
-storedReal digits places = cond (isLiteral digits places) (literalReal digits places) (ofInt binary64 (pos 0))
+storedReal digits places = cond (inRange digits places) (literalReal digits places) (ofInt binary64 (pos 0))
 
 -- 'the Integer becomes Real': the Integer of a code of w bits, rounded once
 abbrev pub integerReal : ℕ → ℕ → Float

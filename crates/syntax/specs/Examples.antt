@@ -84,9 +84,11 @@ readings =
     ∷ record { text = bytes "[] []"; gives = denied 4 3 }
     ∷ record { text = bytes "[a = 1"; gives = denied 4 6 }
     ∷ record { text = bytes "[a = 1  "; gives = denied 4 8 }
-    -- levels: 64 are accepted, and level 65 is refused at its `(` or unary operator
+    -- levels: 64 are accepted, and level 65 is refused at its `(`, unary operator or `?`
     ∷ record { text = bytes "[a=" ++ replicate 65 40; gives = denied 6 67 }
-    ∷ record { text = bytes "[a=" ++ replicate 64 40; gives = denied 4 67 }
+    ∷ record { text = bytes "[a=" ++ replicate 64 40 ++ bytes "1" ++ replicate 64 41 ++ bytes "]"; gives = accepted (define (bytes "a") (whole 1) ∷ []) }
+    ∷ record { text = bytes "[a=" ++ replicate 64 33 ++ bytes "(1)]"; gives = denied 6 67 }
+    ∷ record { text = bytes "[a=" ++ replicate 64 40 ++ bytes "1?2"; gives = denied 6 68 }
     ∷ record { text = bytes "[a=" ++ replicate 64 33 ++ bytes "-1]"; gives = denied 6 67 }
     -- both spellings
     ∷ record { text = bytes "[a = b =?= c; d = b =!= c]"; gives = accepted (define (bytes "a") (binary Is (name (bytes "b")) (name (bytes "c"))) ∷ define (bytes "d") (binary Isnt (name (bytes "b")) (name (bytes "c"))) ∷ []) }

@@ -33,6 +33,7 @@ lastDigits (suc k) n = lastDigits k (n / 10) ++ (code "0" + n % 10) ∷ []
 unfoldable pub escaped : ℕ → List ℕ
 escaped b = cond (eqb b (code "\"")) (bytes "\\\"") (cond (eqb b (code "\\")) (bytes "\\\\") (cond (eqb b (code "\n")) (bytes "\\n") (cond (eqb b (code "\t")) (bytes "\\t") (b ∷ []))))
 
+-- the bytes of a string as they are written
 unfoldable pub escapedAll : List ℕ → List ℕ
 escapedAll [] = []
 escapedAll (b ∷ l) = escaped b ++ escapedAll l
@@ -67,6 +68,7 @@ binaryText Multiply = bytes "*"
 binaryText Divide = bytes "/"
 binaryText Remainder = bytes "%"
 
+-- 'unary `! + -`'
 unfoldable pub unaryText : Unary → List ℕ
 unaryText Not = bytes "!"
 unaryText Plus = bytes "+"

@@ -134,7 +134,7 @@ pub record Limits : Type 0 where
   pub most-definitions : ℕ
   pub taken : List ℕ → Ad → Bool
 
--- document 01's
+-- document 01's: 1,024 nodes, 256 definitions, and no 'name defined twice'
 abbrev pub limits : Limits
 limits = record { most-nodes = maxNodes; most-definitions = maxDefinitions; taken = defined }
 
@@ -144,7 +144,7 @@ module _ (L : Limits) where
   room c p go = pick (leb (L .most-nodes) c) (λ _. refused 9 p) go
 
   -- The readers: u are the tokens, d is the level, and c nodes were counted before. `f` bounds how deep the calls go: no answer
-  -- comes from it (Laws.Sound, `fuel-never-shows`).
+  -- comes from it (Laws/Accepts.antt, `refusals`: every number is 3 or more).
   unfoldable mutual
     -- 'A conditional is an `||`-expression, `?`, an expression, `:`, an expression.'
     pub conditionalAt : ℕ → Tokens → ℕ → ℕ → Parsed
