@@ -110,7 +110,7 @@ readings =
 
 -- EACH TEXT OF THE TABLE READS AS ITS ANSWER
 read-as : map (λ (r : Reading). read (r .text)) readings ≡ map (λ (r : Reading). r .gives) readings
-unfolding readings printing-example read parse adAt definitionsAt conditionalAt count codeOf size defined bindsOf tokensFrom frontToken nameFront wordIn reserved numberFront integerFront realFront fractionOf valueFrom bodyOf escapeOf frontOf symbolIn begins spellings bytes isBlank isDigit isLetter startsName continuesName lowerCase sameName sameBytes
+unfolding readings printing-example read parse adAt definitionsAt conditionalAt count size defined tokensFrom frontToken nameFront wordIn reserved numberFront integerFront realFront fractionOf valueFrom bodyOf escapeOf frontOf symbolIn begins spellings bytes isBlank isDigit isLetter startsName continuesName lowerCase sameName sameBytes
 read-as = refl
 
 -- ---- printing
@@ -132,7 +132,7 @@ printings =
 
 -- EACH TREE OF THE TABLE PRINTS AS ITS TEXT
 printed-as : map (λ (p : Printing). printedAd (p .tree)) printings ≡ map (λ (p : Printing). p .gives) printings
-unfolding printings printing-example printedAd definitionsText printed referenceText binds bindsOf unaryText binaryText literalText escapedAll escaped lastDigits digits bytes
+unfolding printings printing-example printedAd definitionsText printed referenceText binds unaryText binaryText literalText escapedAll escaped lastDigits digits bytes
 printed-as = refl
 
 -- a sum of n + 1 terms
@@ -142,5 +142,5 @@ sum (suc n) = binary Add (sum n) (whole 1)
 
 -- 'Printing every operator in parentheses: a sum of 100 terms reads back as refusal 6': here it has no level
 sum-is-flat : levelOf (sum 99) ≡ 0
-unfolding sum levelOf binds bindsOf
+unfolding sum levelOf binds
 sum-is-flat = refl

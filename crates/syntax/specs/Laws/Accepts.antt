@@ -31,17 +31,15 @@ data Tail : List Token → Type 0 where
   trailing : Tail (symbol Semicolon ∷ symbol CloseBracket ∷ [])
 
 tail-stops : {t : List Token} {u v : Tokens} → Tail t → Follows u t v → Stops 0 u
-unfolding codeOf
 tail-stops plain (some f) = ((λ q. absurd (true≢false (sym q))), λ j q. absurd (never j q))
 tail-stops trailing (some f) = ((λ q. absurd (true≢false (sym q))), λ j q. absurd (never j q))
 
 semicolon-stops : {y v : Tokens} {l : List Token} → Follows y (symbol Semicolon ∷ l) v → Stops 0 y
-unfolding codeOf
 semicolon-stops (some f) = ((λ q. absurd (true≢false (sym q))), λ j q. absurd (never j q))
 
 module _ (L : Limits) where
   tail-complete : {t : List Token} {u : Tokens} {m : ℕ} → Tail t → Follows u t (end m) → (a : Ad) (c f : ℕ) → length t < f → behindAt L f u a c ≡ accepted a
-  unfolding definitionsAt codeOf
+  unfolding definitionsAt
   tail-complete t f a c zero h = absurd (omega arith)
   tail-complete plain (some none) a c (suc f) h = refl
   tail-complete trailing (some f) a c (suc zero) h = absurd (omega arith)
@@ -49,13 +47,13 @@ module _ (L : Limits) where
 
   -- a definition in front: the reader goes on behind it
   one-complete : (w : List ℕ) (ts : List Token) (e : Expr) (u v : Tokens) (a : Ad) (c f : ℕ) → Reads 0 0 ts e → Follows u (word w ∷ symbol Assign ∷ ts) v → Stops 0 v → L .taken w a ≡ false → length a < L .most-definitions → c + size e ≤ L .most-nodes → definitionsAt L (suc f) u a c ≡ behindAt L f v (a ++ record { name = w; expression = e } ∷ []) (c + size e)
-  unfolding definitionsAt codeOf
+  unfolding definitionsAt
   one-complete w ts e u v a c f r (some (some {u = x} g)) st ht ha hc =
       rw (ht, lt-leb (L .most-definitions) (length a) ha, conditional-complete L r x v c (enough x) g st hc (omega (arith, follows-count g))) refl
 
   -- behind a definition, `;` leads to the next
   semicolon-complete : {y v : Tokens} {l : List Token} → Follows y (symbol Semicolon ∷ l) v → (a : Ad) (c f : ℕ) → (z : Tokens) × Follows z l v × (behindAt L (suc f) y a c ≡ definitionsAt L f z a c)
-  unfolding definitionsAt codeOf
+  unfolding definitionsAt
   semicolon-complete (some {u = z} g) a c f = (z, g, refl)
 
   defines-complete : {ts : List Token} {b : Ad} → Defines ts b → (t : List Token) → Tail t → (u : Tokens) (m : ℕ) (a : Ad) (c f : ℕ) → Follows u (ts ++ t) (end m) → length (ts ++ t) < f → c + nodes b ≤ L .most-nodes → length a + length b ≤ L .most-definitions → NewAfter (L .taken) a b → definitionsAt L f u a c ≡ accepted (a ++ b)
@@ -77,13 +75,13 @@ module _ (L : Limits) where
       ∙ ap accepted (append-assoc a (D ∷ []) b)))
 
   closed-complete : (u : Tokens) (m f : ℕ) → Follows u (symbol CloseBracket ∷ []) (end m) → 0 < f → definitionsAt L f u [] 0 ≡ accepted []
-  unfolding definitionsAt codeOf
+  unfolding definitionsAt
   closed-complete u m zero g h = absurd (omega arith)
   closed-complete u m (suc f) (some none) h = refl
 
   -- AN AD OF THE GRAMMAR WITHIN THE LIMITS IS ACCEPTED, with its tree
   pub ad-complete : {ts : List Token} {a : Ad} → IsAd ts a → (u : Tokens) (m : ℕ) → Follows u ts (end m) → nodes a ≤ L .most-nodes → length a ≤ L .most-definitions → NewAfter (L .taken) [] a → adAt L u ≡ accepted a
-  unfolding adAt codeOf
+  unfolding adAt
   ad-complete ad-empty u m (some {u = v} g) hc ha hn = closed-complete v m (enough v) g (omega arith)
   ad-complete (ad-plain {ts} d) u m (some {u = v} g) hc ha hn =
       defines-complete d (symbol CloseBracket ∷ []) plain v m [] 0 (enough v) g (omega (arith, follows-count g)) (omega arith) (omega arith) hn

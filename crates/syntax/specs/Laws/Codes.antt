@@ -37,7 +37,7 @@ tokenOf n =
 
 -- a token that has a number is found again by it
 found : (t : Token) → 1 ≤ codeOf t → tokenOf (codeOf t) ≡ t
-unfolding codeOf tokenOf
+unfolding tokenOf
 found (word w) h = absurd (omega arith)
 found (constant l) h = absurd (omega arith)
 found (operator Or) h = refl
@@ -70,7 +70,6 @@ found (symbol Parent) h = refl
 
 -- every operator and every symbol has a number
 pub operator-coded : (j : Binary) → 1 ≤ codeOf (operator j)
-unfolding codeOf
 operator-coded Or = omega arith
 operator-coded And = omega arith
 operator-coded Equal = omega arith
@@ -88,7 +87,6 @@ operator-coded Divide = omega arith
 operator-coded Remainder = omega arith
 
 pub symbol-coded : (s : Symbol) → 1 ≤ codeOf (symbol s)
-unfolding codeOf
 symbol-coded Exclamation = omega arith
 symbol-coded Question = omega arith
 symbol-coded Colon = omega arith
@@ -113,7 +111,6 @@ is-itself x = eq-eqb (codeOf x) (codeOf x) refl
 
 -- every operator binds somewhere from 1 to 6
 pub binds-low : (j : Binary) → (1 ≤ bindsOf j) × (bindsOf j ≤ 6)
-unfolding bindsOf
 binds-low Or = omega arith
 binds-low And = omega arith
 binds-low Equal = omega arith

@@ -62,7 +62,6 @@ stop-binary b (end n) then otherwise h = refl
 stop-binary b (bad k p) then otherwise h = refl
 
 at-unary : (o : Unary) (p : ℕ) (v : Tokens) (then : Unary → ℕ → Tokens → Parsed) (otherwise : Unit {0} → Parsed) → onUnary (next p (unaryToken o) v) then otherwise ≡ then o p v
-unfolding codeOf
 at-unary Not p v then otherwise = refl
 at-unary Plus p v then otherwise = refl
 at-unary Minus p v then otherwise = refl
@@ -85,25 +84,21 @@ Head [] = ⊥
 Head (t ∷ ts) = (o : Unary) → isToken (unaryToken o) t ≡ false
 
 literal-head : (l : Literal) (o : Unary) → isToken (unaryToken o) (constant l) ≡ false
-unfolding codeOf
 literal-head l Not = refl
 literal-head l Plus = refl
 literal-head l Minus = refl
 
 word-head : (w : List ℕ) (o : Unary) → isToken (unaryToken o) (word w) ≡ false
-unfolding codeOf
 word-head w Not = refl
 word-head w Plus = refl
 word-head w Minus = refl
 
 other-head : (o : Unary) → isToken (unaryToken o) (symbol Other) ≡ false
-unfolding codeOf
 other-head Not = refl
 other-head Plus = refl
 other-head Minus = refl
 
 open-head : (o : Unary) → isToken (unaryToken o) (symbol OpenParenthesis) ≡ false
-unfolding codeOf
 open-head Not = refl
 open-head Plus = refl
 open-head Minus = refl
@@ -189,7 +184,7 @@ module _ (L : Limits) where
         ∙ rw (lt-leb maxLevel d hd, lt-leb (L .most-nodes) c (omega arith), h (x .1) v (c + 1) (suc f) (x .3) st (omega arith) (omega arith)) refl)
 
     comp-parentheses : d < maxLevel → CompC (d + 1) ts e → CompP d (symbol OpenParenthesis ∷ (ts ++ symbol CloseParenthesis ∷ [])) e
-    unfolding conditionalAt codeOf
+    unfolding conditionalAt
     comp-parentheses hd h u v c zero l hc hf = absurd (omega arith)
     comp-parentheses hd h u v c (suc f) l hc hf =
         let x = follows-token l in
@@ -210,12 +205,12 @@ module _ (L : Limits) where
   comp-own d w u v c (suc f) (some none) hc hf = rw (lt-leb (L .most-nodes) c (omega arith)) refl
 
   comp-other : (d : ℕ) (w : List ℕ) → CompP d (symbol Other ∷ symbol Point ∷ word w ∷ []) (reference other w)
-  unfolding conditionalAt size codeOf
+  unfolding conditionalAt size
   comp-other d w u v c zero (some (some (some none))) hc hf = absurd (omega arith)
   comp-other d w u v c (suc f) (some (some (some none))) hc hf = rw (lt-leb (L .most-nodes) c (omega arith)) refl
 
   comp-conditional : (d : ℕ) (xs ys zs : List Token) (a b e : Expr) → d < maxLevel → CompB 1 d xs a → CompC (d + 1) ys b → CompC (d + 1) zs e → CompC d (xs ++ symbol Question ∷ (ys ++ symbol Colon ∷ zs)) (conditional a b e)
-  unfolding conditionalAt size codeOf
+  unfolding conditionalAt size
   comp-conditional d xs ys zs a b e hd ha hb he u v c zero l st hn hf = absurd (omega arith)
   comp-conditional d xs ys zs a b e hd ha hb he u v c (suc zero) l st hn hf = absurd (omega arith)
   comp-conditional d xs ys zs a b e hd ha hb he u v c (suc (suc f)) l st hn hf =
@@ -231,7 +226,7 @@ module _ (L : Limits) where
       refl
 
   spine-binary : (d : ℕ) (j : Binary) (xs ys : List Token) (a b : Expr) → Spine (bindsOf j) d xs a → CompB (bindsOf j + 1) d ys b → Spine (bindsOf j) d (xs ++ operator j ∷ ys) (binary j a b)
-  unfolding conditionalAt size codeOf
+  unfolding conditionalAt size
   spine-binary d j xs ys a b ha hb u v c g l st hn hf =
       let x = follows-split xs l in
       let t = follows-token (x .2) in
