@@ -1,6 +1,6 @@
 -- The layout of a stored ad: what the words and bytes of its memory hold (docs/LAYOUT.md). 'Layouts are the team's, written in
 -- docs/; equal trees have equal content.' Assumes nothing.
-use Prim.Native.Nat.{ℕ, zero, suc, _+_, _-_, _*_, _≤_}
+use Prim.Native.Nat.{ℕ, zero, suc, _+_, _-_, _*_, _≤_, _<_}
 use mathlib.Core.Bool.{Bool, true, false, cond}
 use mathlib.Core.List.{List, [], _∷_, _++_}
 use lib.ListN.{length, replicate}
@@ -102,6 +102,11 @@ adDefinitions n o [] = []
 adDefinitions n o (d ∷ ds) =
     o ∷ length (d .name) ∷ (n + size (d .expression) - 1)
     ∷ adDefinitions (n + size (d .expression)) (o + length (d .name) + length (exprBytes (d .expression))) ds
+
+-- no name is empty: 'Name: a letter or `_`, then ..'; so a definition's length is never that of unused room
+unfoldable pub Named : Ad → Type 0
+Named [] = Unit {0}
+Named (d ∷ ds) = (0 < length (d .name)) × Named ds
 
 -- ---- the whole memory of an ad
 

@@ -11,12 +11,12 @@ use Rattle.text.specs.Bytes.{bytes, lowerCase}
 use Rattle.text.specs.Strings.{sameName, sameBytes}
 use Rattle.syntax.specs.Tree.{Literal, undefined, Scope, own, Expr, literal, reference, binary, Definition, Ad, size, nodes}
 use Rattle.syntax.specs.declared.Binary.the-variants.{Is}
-use Rattle.ad.specs.Layout.{binaryKind, scopeKind, literalNode, literalBytes, exprBytes, exprNodes, adNodes, adBytes, adDefinitions, storedWords, storedBytes}
+use Rattle.ad.specs.Layout.{binaryKind, scopeKind, literalNode, literalBytes, exprBytes, exprNodes, adNodes, adBytes, adDefinitions, Named, storedWords, storedBytes}
 use Rattle.graph.specs.Members.{_∈_, here, there}
 use Rattle.graph.specs.Laws.Members.{mem-nil, mem-cons, ltb-yes}
 use Rattle.graph.specs.Graph.{Graph, Path⁺, one, more, Circular}
 use Rattle.ad.specs.Stored.{kindAt, nameAt, isReference, nodeCount, definitionCount, operands, arity, find, findFrom}
-use Rattle.links.specs.Pair.{linksFrom, numbered, linked, both, pairGraph, Stands, Named}
+use Rattle.links.specs.Pair.{linksFrom, numbered, linked, both, pairGraph, Stands}
 use Rattle.links.specs.Laws.Soundness.{both-low}
 use Rattle.links.specs.Laws.Numbering.{links-own, links-operator, ref-is}
 use Rattle.links.specs.Laws.Layout.{stored-nodes, stored-definitions, stored-behind}

@@ -10,7 +10,7 @@ use lib.Dec.{ltb}
 use Rattle.text.specs.Bytes.{bytes}
 use Rattle.syntax.specs.Bounds.{maxNodes, maxDefinitions}
 use Rattle.syntax.specs.Tree.{Definition, Ad, nodes}
-use Rattle.ad.specs.Layout.{adWords, storedWords, storedBytes}
+use Rattle.ad.specs.Layout.{Named, adWords, storedWords, storedBytes}
 use Rattle.graph.specs.Members.{_∈_, Each}
 use Rattle.graph.specs.Graph.{Graph}
 use Rattle.ad.specs.Stored.{kindAt, nodeCount, definitionCount, isOwn, isOther, isReference, operands, nameAt, rootAt, find, rootsFrom}
@@ -88,11 +88,6 @@ pub record Measured (w : List ℕ) (n d : ℕ) : Type 0 where
 -- x is a node of the pair
 abbrev pub Stands : (v w : List ℕ) → ℕ → Type 0
 Stands v w x = both (λ i. ltb i (nodeCount v)) (λ i. ltb i (nodeCount w)) x ≡ true
-
--- no name is empty: 'Name: a letter or `_`, then ..'
-unfoldable pub Named : Ad → Type 0
-Named [] = Unit {0}
-Named (d ∷ ds) = (0 < length (d .name)) × Named ds
 
 -- the memory w and b holds the ad a, which is within the bounds
 pub record StoredAd (w b : List ℕ) (a : Ad) : Type 0 where

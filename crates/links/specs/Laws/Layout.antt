@@ -14,12 +14,12 @@ use Rattle.syntax.specs.declared.Binary.{Binary}
 use Rattle.syntax.specs.declared.Binary.the-variants.{Or, And, Equal, NotEqual, Is, Isnt, Less, LessOrEqual, Greater, GreaterOrEqual, Add, Subtract, Multiply, Divide, Remainder}
 use Rattle.syntax.specs.declared.Unary.{Unary}
 use Rattle.syntax.specs.declared.Unary.the-variants.{Not, Plus, Minus}
-use Rattle.ad.specs.Layout.{unaryKind, binaryKind, scopeKind, node, literalNode, exprBytes, exprNodes, adNodes, adDefinitions, nodeWords, adWords, padded, storedWords, storedBytes}
+use Rattle.ad.specs.Layout.{unaryKind, binaryKind, scopeKind, node, literalNode, exprBytes, exprNodes, adNodes, adDefinitions, Named, nodeWords, adWords, padded, storedWords, storedBytes}
 use Rattle.graph.specs.Members.{_∈_, Each}
 use Rattle.graph.specs.Laws.Members.{mem-nil, mem-cons}
 use Rattle.graph.specs.Graph.{Sound}
 use Rattle.ad.specs.Stored.{leading, kindAt, operandAt, nodeCount, definitionCount, lengthAt, rootAt, operands, arity}
-use Rattle.links.specs.Pair.{Formed, Named, StoredAd, pairGraph}
+use Rattle.links.specs.Pair.{Formed, StoredAd, pairGraph}
 use Rattle.links.specs.Laws.Counting.{leading-is}
 use Rattle.links.specs.Laws.Soundness.{pair-sound}
 
