@@ -1,5 +1,5 @@
-// The value layer for programs in other languages: the operators over packed slots (docs/LAYOUT.md, `crates/slots`).
-// Any numbers may come. An operator is named by the kind of its node; where a number is no operator's, or an operand's
+// For programs in other languages: reading, and the operators over packed slots (docs/LAYOUT.md, `crates/slots`).
+// Any bytes and numbers may come. An operator is named by the kind of its node; where a number is no operator's, or an operand's
 // slot is blank, the result is a blank slot. Missing words of `operands` read as 0, and of `result` only slot 0 is
 // written, as far as it is there.
 ghost use mathlib.Core.Path.{_≡_};
@@ -8,6 +8,8 @@ ghost use Rattle.reals.specs.Reals.{storedReal};
 ghost use Rattle.slots.specs.declared.Slot.the-variants.{Held};
 ghost use Rattle.slots.specs.Packed.{slotAt, Stored};
 ghost use Rattle.exports.specs.Exports.{binaryOf, unaryOf, binarySlot, unarySlot, conditionalSlot};
+ghost use Rattle.exports.specs.Reading.{numbersOf, Reported};
+use reader::Answer;
 use slots::Slot;
 use syntax::Binary;
 use syntax::Unary;
@@ -151,4 +153,27 @@ pub extern "C" fn classad_real(digits: u64, places: u64, result: &mut [u64])
         0,
         Slot::Held(Value::Real(reals::literal(digits, places))),
     );
+}
+
+// An answer as three numbers: 0, the definitions and the nodes; or the refusal's number, the byte's place and 0.
+fn numbers(answer: Answer) -> [u64; 3]
+    ensures { λ r. ⌜ r ≡ numbersOf answer ⌝ }
+{
+    match answer {
+        Answer::Accepted(d, n) => [0, d as u64, n as u64],
+        Answer::Refused(k, p) => [k as u64, p as u64, 0],
+    }
+}
+
+// Reads any text into any lent memory of an ad.
+#[no_mangle]
+pub extern "C" fn classad_read(
+    text: &[u8],
+    words: &mut [u64],
+    bytes: &mut [u8],
+    answer: &mut [u64; 3],
+)
+    ensures { λ _. ⌜ Reported (now (text .entry)) (now (words .entry)) (now (bytes .entry)) (now (words .exit)) (now (bytes .exit)) (now (answer .exit)) ⌝ }
+{
+    *answer = numbers(reader::read(text, words, bytes));
 }
