@@ -27,6 +27,15 @@ extern "C" {
         result_length: usize,
     );
     fn classad_real(digits: u64, places: u64, result: *mut u64, result_length: usize);
+    fn classad_read(
+        text: *const u8,
+        text_length: usize,
+        words: *mut u64,
+        words_length: usize,
+        bytes: *mut u8,
+        bytes_length: usize,
+        answer: *mut [u64; 3],
+    );
 }
 
 pub fn binary(first: &[u8], second: &[u8], kind: u64, operands: &[u64], result: &mut [u64]) {
@@ -74,4 +83,19 @@ pub fn conditional(operands: &[u64], result: &mut [u64]) {
 pub fn real(digits: u64, places: u64, result: &mut [u64]) {
     // Safety: as above.
     unsafe { classad_real(digits, places, result.as_mut_ptr(), result.len()) }
+}
+
+pub fn read(text: &[u8], words: &mut [u64], bytes: &mut [u8], answer: &mut [u64; 3]) {
+    // Safety: as above.
+    unsafe {
+        classad_read(
+            text.as_ptr(),
+            text.len(),
+            words.as_mut_ptr(),
+            words.len(),
+            bytes.as_mut_ptr(),
+            bytes.len(),
+            answer,
+        );
+    }
 }

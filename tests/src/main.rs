@@ -1,7 +1,9 @@
 //! Compares the proved library with the reference on seeded inputs. Case number `index` of
 //! a run depends on the seed and the index alone, so that each can be repeated by itself.
 
+mod layout;
 mod library;
+mod reading;
 mod report;
 mod slot;
 mod values;
@@ -10,7 +12,8 @@ use reference::rng::Rng;
 use report::Report;
 use std::process::ExitCode;
 
-const USAGE: &str = "usage: tests/run values SEED COUNT [FROM]
+const USAGE: &str = "usage: tests/run NAME SEED COUNT [FROM]
+NAME is values or reading.
 COUNT cases of SEED, from number FROM on (0 without it).
 ";
 
@@ -55,6 +58,7 @@ fn main() -> ExitCode {
     };
     let report = match name.as_str() {
         "values" => values::run(&cases),
+        "reading" => reading::run(&cases),
         _ => {
             eprint!("{USAGE}");
             return ExitCode::from(FAULT);
