@@ -6,6 +6,7 @@ mod library;
 mod reading;
 mod report;
 mod slot;
+mod timing;
 mod values;
 
 use reference::rng::Rng;
@@ -13,8 +14,9 @@ use report::Report;
 use std::process::ExitCode;
 
 const USAGE: &str = "usage: tests/run NAME SEED COUNT [FROM]
+       tests/run timing COUNT
 NAME is values or reading.
-COUNT cases of SEED, from number FROM on (0 without it).
+COUNT cases of SEED, from number FROM on (0 without it); each text COUNT times.
 ";
 
 /// All compared and no difference; some difference, or nothing compared; a wrong command line.
@@ -49,6 +51,10 @@ impl Cases {
 
 fn main() -> ExitCode {
     let words: Vec<String> = std::env::args().skip(1).collect();
+    if let Some(count) = timing_count(&words) {
+        print!("{}", timing::run(count));
+        return ExitCode::from(SAME);
+    }
     let Some((name, Some(cases))) = words
         .split_first()
         .map(|(name, rest)| (name, Cases::of(rest)))
@@ -65,6 +71,13 @@ fn main() -> ExitCode {
         }
     };
     finish(&report)
+}
+
+fn timing_count(words: &[String]) -> Option<u64> {
+    match words {
+        [name, count] if name == "timing" => count.parse().ok(),
+        _ => None,
+    }
 }
 
 fn finish(report: &Report) -> ExitCode {

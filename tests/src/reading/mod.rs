@@ -29,29 +29,21 @@ pub fn run(cases: &Cases) -> Report {
     report
 }
 
-/// Lent memory before the call: its sizes, and what all of it holds.
+/// Lent memory before the call: its sizes, and the seed of the noise that it holds.
 struct Rooms {
     words: usize,
     bytes: usize,
-    filled: u8,
+    noise: u64,
 }
 
 impl Rooms {
-    /// Mostly what is required or a little more; at times too little.
+    /// Mostly what is required or a little more; at times too little, of either or both.
     fn draw(rng: &mut Rng) -> Rooms {
         let short = rng.below(100);
-        let more = rng.below(5);
-        let size = |required: usize, chosen: bool| {
-            if chosen {
-                required - 1 - more * more * more
-            } else {
-                required + more
-            }
-        };
         Rooms {
-            words: size(layout::WORDS, short == 0),
-            bytes: size(layout::BYTES, short == 1),
-            filled: rng.byte(),
+            words: size(rng, layout::WORDS, short <= 1),
+            bytes: size(rng, layout::BYTES, 1 <= short && short <= 2),
+            noise: rng.bits(),
         }
     }
 
@@ -60,10 +52,20 @@ impl Rooms {
     }
 
     fn memory(&self) -> Stored {
-        Stored {
-            words: vec![u64::from_le_bytes([self.filled; 8]); self.words],
-            bytes: vec![self.filled; self.bytes],
-        }
+        let mut rng = Rng::new(self.noise);
+        let words = (0..self.words).map(|_| rng.bits()).collect();
+        let noise = (0..self.bytes.div_ceil(8)).flat_map(|_| rng.bits().to_le_bytes());
+        let bytes = noise.take(self.bytes).collect();
+        Stored { words, bytes }
+    }
+}
+
+fn size(rng: &mut Rng, required: usize, short: bool) -> usize {
+    match (short, rng.chance(50)) {
+        (true, true) => required - 1,
+        (true, false) => rng.below(required),
+        (false, true) => required,
+        (false, false) => required + rng.below(100),
     }
 }
 

@@ -1,0 +1,122 @@
+//! How long reading takes, by the library and by the reference, on texts that are hard in
+//! different ways.
+
+use crate::layout::Stored;
+use crate::library;
+use reference::bounds;
+use reference::read::read;
+use std::fmt::Write;
+use std::hint::black_box;
+use std::time::{Duration, Instant};
+
+/// The median of `count` readings of each text.
+pub fn run(count: u64) -> String {
+    let mut text = format!(
+        "{:<34} {:>6} {:>11} {:>11} {:>11} {:>6}\n",
+        "median time", "bytes", "answer", "library", "reference", "ratio"
+    );
+    for (name, bytes) in texts() {
+        let mut memory = Stored::zero();
+        let mut answer = [0; 3];
+        let proved = median(count, || {
+            library::read(
+                black_box(&bytes),
+                &mut memory.words,
+                &mut memory.bytes,
+                &mut answer,
+            )
+        });
+        let second = median(count, || {
+            let _ = black_box(read(black_box(&bytes)));
+        });
+        writeln!(
+            text,
+            "{name:<34} {:>6} {:>11} {:>8.1} us {:>8.1} us {:>6.2}",
+            bytes.len(),
+            format!("{}/{}/{}", answer[0], answer[1], answer[2]),
+            micros(proved),
+            micros(second),
+            micros(proved) / micros(second)
+        )
+        .unwrap();
+    }
+    text
+}
+
+fn median(count: u64, mut call: impl FnMut()) -> Duration {
+    let mut times: Vec<Duration> = (0..count.max(1))
+        .map(|_| {
+            let start = Instant::now();
+            call();
+            start.elapsed()
+        })
+        .collect();
+    times.sort();
+    times[times.len() / 2]
+}
+
+fn micros(time: Duration) -> f64 {
+    time.as_nanos() as f64 / 1_000.0
+}
+
+fn texts() -> Vec<(&'static str, Vec<u8>)> {
+    vec![
+        ("no ad: one byte", b"x".to_vec()),
+        ("small ad", small()),
+        ("256 names that differ late", names()),
+        ("1,023 nodes in a sum", sum(0)),
+        ("the same in 14 parentheses each", sum(14)),
+        ("512 operands, every level between", levels()),
+        ("blanks before the last token", blanks()),
+        ("15 strings of 1,024 bytes", strings()),
+    ]
+}
+
+fn small() -> Vec<u8> {
+    let text = r#"[ Type = "Machine"; Memory = 16384; Cpus = 8; LoadAvg = 0.25; Arch = "X86_64"; OpSys = "LINUX";
+Rank = other.Department == "Physics" ? 10 : other.JobPrio / 2;
+Requirements = LoadAvg < 0.3 && other.RequestMemory <= Memory && other.RequestCpus <= Cpus ]"#;
+    text.as_bytes().to_vec()
+}
+
+/// As many definitions as fit, with names that are the same up to their last three bytes.
+fn names() -> Vec<u8> {
+    let same = "n".repeat(57);
+    let definitions = (0..bounds::DEFINITIONS).map(|number| format!("{same}{number:03}=1;"));
+    padded(format!("[{}", definitions.collect::<String>()).into_bytes())
+}
+
+/// 512 operands, each in so many parentheses.
+fn sum(parentheses: usize) -> Vec<u8> {
+    let operand = ["(".repeat(parentheses), ")".repeat(parentheses)].join("1");
+    format!("[a={}]", vec![operand; 512].join("+")).into_bytes()
+}
+
+/// Operators of rising and falling levels in turn.
+fn levels() -> Vec<u8> {
+    let operators = ["||", "*", "&&", "+", "==", "<"];
+    let mut text = b"[a=1".to_vec();
+    for number in 1..512 {
+        text.extend(operators[number % operators.len()].as_bytes());
+        text.push(b'1');
+    }
+    text.push(b']');
+    text
+}
+
+fn blanks() -> Vec<u8> {
+    padded(b"[a=1".to_vec())
+}
+
+fn strings() -> Vec<u8> {
+    let string = "x".repeat(bounds::STRING_BYTES);
+    let definitions = (0..15).map(|number| format!("n{number}=\"{string}\";"));
+    padded(format!("[{}", definitions.collect::<String>()).into_bytes())
+}
+
+/// Blanks and the closing bracket, up to the text's bound.
+fn padded(mut text: Vec<u8>) -> Vec<u8> {
+    text.resize(bounds::TEXT_BYTES - 1, b' ');
+    text.push(b']');
+    text
+}
