@@ -63,7 +63,8 @@ fn texts() -> Vec<(&'static str, Vec<u8>)> {
     vec![
         ("no ad: one byte", b"x".to_vec()),
         ("small ad", small()),
-        ("256 names that differ late", names()),
+        ("256 names that differ late", names("n", "")),
+        ("256 names that differ early", names("", "n")),
         ("1,023 nodes in a sum", sum(0)),
         ("the same in 14 parentheses each", sum(14)),
         ("512 operands, every level between", levels()),
@@ -79,10 +80,11 @@ Requirements = LoadAvg < 0.3 && other.RequestMemory <= Memory && other.RequestCp
     text.as_bytes().to_vec()
 }
 
-/// As many definitions as fit, with names that are the same up to their last three bytes.
-fn names() -> Vec<u8> {
-    let same = "n".repeat(57);
-    let definitions = (0..bounds::DEFINITIONS).map(|number| format!("{same}{number:03}=1;"));
+/// As many definitions as fit, with names of 60 bytes: three digits behind or before the same bytes.
+fn names(before: &str, behind: &str) -> Vec<u8> {
+    let (before, behind) = (before.repeat(56), behind.repeat(56));
+    let definitions =
+        (0..bounds::DEFINITIONS).map(|number| format!("n{before}{number:03}{behind}=1;"));
     padded(format!("[{}", definitions.collect::<String>()).into_bytes())
 }
 
