@@ -29,17 +29,17 @@ fn many_ads(seed: u64, count: usize) -> Vec<Ad> {
     ads
 }
 
+fn assert_reads_as(text: &[u8], ad: &Ad) {
+    let answer = read(text);
+    assert_eq!(answer.as_ref(), Ok(ad), "{}", String::from_utf8_lossy(text));
+}
+
 #[test]
 fn printed_text_reads_back() {
     for ad in many_ads(1, 4_000) {
         let text = printed_text(&ad);
         assert_eq!(print(&ad), Ok(text.clone()));
-        assert_eq!(
-            read(&text).as_ref(),
-            Ok(&ad),
-            "{}",
-            String::from_utf8_lossy(&text)
-        );
+        assert_reads_as(&text, &ad);
     }
 }
 
@@ -49,12 +49,7 @@ fn every_spelling_reads_the_same() {
     for ad in many_ads(2, 4_000) {
         let text = spelled(&mut rng, &ad);
         if text.len() <= 16_384 {
-            assert_eq!(
-                read(&text).as_ref(),
-                Ok(&ad),
-                "{}",
-                String::from_utf8_lossy(&text)
-            );
+            assert_reads_as(&text, &ad);
         }
     }
 }
