@@ -12,7 +12,6 @@ use Rattle.graph.specs.declared.Place.{Place}
 use Rattle.graph.specs.declared.Place.the-variants.{Resolving, Between, Inside}
 use Rattle.ad.specs.Stored.{nodeCount}
 use Rattle.links.specs.Pair.{Stands}
-use Rattle.marks.specs.Memory.{marksRoom}
 use Rattle.dependency.specs.Traversal.{PlaceFits, lookupOf, foundAt}
 use Rattle.dependency.specs.declared.Lookup.the-variants.{Found, Absent, Circular}
 
@@ -43,12 +42,12 @@ place-some h = rw (ltb-yes h) refl
 pub place-none : {n : ℕ} → n ≤ 0 → Between 0 ≡ cond (ltb 0 n) (Resolving 0) (Between 0)
 place-none h = rw (ltb-no h) refl
 
-module _ (v w : List ℕ) (n m len : ℕ) (ta ls : List ℕ) (pl : Place) (f : PlaceFits v w n m len ta ls pl) where
+module _ (v w : List ℕ) (n m len : ℕ) (ls : List ℕ) (pl : Place) (f : PlaceFits v w n m len ls pl) where
   pub fits-resolving : {i : ℕ} → pl ≡ Resolving i → i < nodeCount v + nodeCount w
-  fits-resolving e = subst (λ (u : Place). PlaceFits v w n m len ta ls u) e f
+  fits-resolving e = subst (λ (u : Place). PlaceFits v w n m len ls u) e f
 
   pub fits-between : {k : ℕ} → pl ≡ Between k → k < n
-  fits-between e = subst (λ (u : Place). PlaceFits v w n m len ta ls u) e f
+  fits-between e = subst (λ (u : Place). PlaceFits v w n m len ls u) e f
 
-  pub fits-inside : {k x : ℕ} → pl ≡ Inside k x → Stands v w x × (k < n) × (m ≤ k → len < length ls) × (getD ta x 0 ≤ marksRoom)
-  fits-inside e = subst (λ (u : Place). PlaceFits v w n m len ta ls u) e f
+  pub fits-inside : {k x : ℕ} → pl ≡ Inside k x → Stands v w x × (k < n) × (m ≤ k → len < length ls)
+  fits-inside e = subst (λ (u : Place). PlaceFits v w n m len ls u) e f

@@ -13,7 +13,7 @@ use lib.Dec.{eqb, ltb, leb}
 use borrow.Author.Tests.{leb-true, leb-false}
 use Rattle.graph.specs.Laws.Members.{eqb-yes, ltb-yes, ltb-no}
 use Rattle.graph.specs.Graph.{Graph, Sound, Node, Flags, IsList}
-use Rattle.graph.specs.Transition.{State, flags, searches, led, unmarked, resolvedTo, transition, transitions, first, Ended}
+use Rattle.graph.specs.Transition.{State, flags, searches, led, recordedAs, marked, resolvedTo, transition, transitions, first, Ended}
 use Rattle.graph.specs.Laws.Traversal.{Ends, traverse}
 use Rattle.graph.specs.Laws.Progress.{PlaceOK, Valid, valid-transitions, valid-first, transitions-suc, total, before-end, over-at, room-at, taken, pending, Awake, awake-next}
 use Rattle.graph.specs.declared.Place.{Place}
@@ -23,11 +23,17 @@ use Rattle.links.specs.Pair.{pairGraph, Formed, Measured, Stands}
 use Rattle.links.specs.Laws.Counting.{nodes-few}
 use Rattle.links.specs.Laws.Soundness.{pair-sound}
 use Rattle.graph.specs.Members.{numbers, raised}
-use Rattle.marks.specs.Memory.{view, marksRoom, Clear, Roomy, Cleared, Grows}
+use Rattle.marks.specs.Memory.{view, Clear, Roomy, Cleared, Grows}
 use Rattle.dependency.specs.Traversal.{endedAt, PlaceFits, Ready, Traversed}
 use Rattle.links.specs.Laws.Numbering.{stands-small, sources-are, definitions-fit}
 use Rattle.graph.specs.Laws.Transitions.{state-eq}
 use Rattle.links.specs.Laws.Numbering.{pair-size}
+
+-- a mark within the slots is what it records
+recorded-is : (H : Graph) (t : ℕ) (l : List ℕ) → ((y : ℕ) → t ≡ suc y → y < H .slots) → recordedAs H t ≡ l → t ≡ marked l
+unfolding recordedAs
+recorded-is H zero l h e = ap marked e
+recorded-is H (suc y) l h e = ap marked (rw (ltb-yes (h y refl)) at e)
 
 -- what holds before each transition, of two well-formed ads
 pub record Going (v b w c : List ℕ) (f : Formed v) (g : Formed w) (count : ℕ) (pl : Place) (len : ℕ) (ta st fr fo fl ls : List ℕ) : Type 0 where
@@ -106,12 +112,6 @@ module _ (v b w c : List ℕ) (f : Formed v) (g : Formed w) where
       unfolding pairGraph
       stands x h = h
 
-      -- the target recorded of a node is a node
-      target-small : (x u : ℕ) → getD ta x 0 ≡ u → u ≤ marksRoom
-      unfolding view
-      target-small x zero e = omega arith
-      target-small x (suc y) e = let a = stands-small v w y (stands y (valid .target-ok x y e)) in omega arith
-
       room-in : (k x : ℕ) → pl ≡ Inside k x → d + d′ ≤ k → len < length ls
       unfolding view taken pending flags
       room-in k x e h =
@@ -128,15 +128,15 @@ module _ (v b w c : List ℕ) (f : Formed v) (g : Formed w) where
           let o = t .roomy .list-room in
           omega arith
 
-      fits-at : (u : Place) → pl ≡ u → PlaceOK G S u → endedAt u (d + d′ + length roots) ≡ false → PlaceFits v w (d + d′ + length roots) (d + d′) len ta ls u
+      fits-at : (u : Place) → pl ≡ u → PlaceOK G S u → endedAt u (d + d′ + length roots) ≡ false → PlaceFits v w (d + d′ + length roots) (d + d′) len ls u
       fits-at (Resolving i) e o h = let a = pair-size v b w c in let z : i < pairGraph v b w c .size = o in omega arith
       fits-at (Between k) e o h = leb-false _ _ h
       fits-at (Inside k x) e o h =
           let z : k < searches (pairGraph v b w c) = o .1 in
           let y = all-searches in
-          (stands x (o .0), omega arith, room-in k x e, target-small x (getD ta x 0) refl)
+          (stands x (o .0), omega arith, room-in k x e)
 
-      pub going-fits : endedAt pl (d + d′ + length roots) ≡ false → PlaceFits v w (d + d′ + length roots) (d + d′) len ta ls pl
+      pub going-fits : endedAt pl (d + d′ + length roots) ≡ false → PlaceFits v w (d + d′ + length roots) (d + d′) len ls pl
       unfolding view
       going-fits h = fits-at pl refl (valid .place-ok) h
 
@@ -220,7 +220,7 @@ module _ (v b w c : List ℕ) (f : Formed v) (g : Formed w) where
             ends = state-eq (sym pe) refl refl refl refl refl refl ∙ t .is;
             exact = t .awake;
             small = most-small;
-            resolved = λ x r. sym (rw r refl) ∙ en′ .resolved x;
+            resolved = λ x r. recorded-is G (getD ta x 0) (G .links x) (λ y e. S .in-slots y (valid .target-ok x y e)) (sym (rw r refl) ∙ en′ .resolved x);
             circular = en′ .flagged;
             order = en′ .order;
             is-list = en′ .is-list;
@@ -242,15 +242,15 @@ pub record Turn (v b w c roots : List ℕ) (nv dv nw dw n count : ℕ) (pl : Pla
   pub fl-same : length fl ≡ length fl₀
   pub ls-same : length ls ≡ length ls₀
 
-pub turn-first : {v w : List ℕ} (b c : List ℕ) {roots : List ℕ} {nv dv nw dw n : ℕ} {pl : Place} {ta st fr fo fl ls : List ℕ} → Measured v nv dv → Measured w nw dw → roots ≡ pairGraph v b w c .roots →
-    Ready v w ta st fr fo fl ls → n ≡ dv + dw + length roots → pl ≡ cond (ltb 0 (nv + nw)) (Resolving 0) (Between 0) →
-    Turn v b w c roots nv dv nw dw n 0 pl 0 ta st fr fo fl ls ta st fr fo fl ls
-turn-first {v} {w} b c p q re r ne e = record {
+pub turn-first : {v w : List ℕ} (b c : List ℕ) {roots : List ℕ} {nv dv nw dw n : ℕ} {pl : Place} {len : ℕ} {ta st fr fo fl ls : List ℕ} → Measured v nv dv → Measured w nw dw → roots ≡ pairGraph v b w c .roots →
+    Ready v w ta st fr fo fl ls → n ≡ dv + dw + length roots → pl ≡ cond (ltb 0 (nv + nw)) (Resolving 0) (Between 0) → len ≡ 0 →
+    Turn v b w c roots nv dv nw dw n 0 pl len ta st fr fo fl ls ta st fr fo fl ls
+turn-first {v} {w} b c {pl = pl} {ta = ta} {st} {fr} {fo} {fl} {ls} p q re r ne e z = record {
   first-is = p;
   second-is = q;
   roots-are = re;
   searches-are = ne;
-  going = going-first v b w c (p .formed) (q .formed) p q e (r .roomy) (r .cleared);
+  going = subst (λ (u : ℕ). Going v b w c (p .formed) (q .formed) 0 pl u ta st fr fo fl ls) (sym z) (going-first v b w c (p .formed) (q .formed) p q e (r .roomy) (r .cleared));
   ta-same = refl;
   st-same = refl;
   fr-same = refl;
@@ -267,7 +267,7 @@ module _ {v b w c roots : List ℕ} {nv dv nw dw n count : ℕ} {pl : Place} {le
   pub turn-end : r ≡ true → Traversed (pairGraph v b w c) count len ta st fr fo fl ls
   turn-end h = going-end v b w c (t .first-is .formed) (t .second-is .formed) (t .going) (t .first-is) (t .second-is) (t .roots-are) (test h)
 
-  pub turn-fits : r ≡ false → PlaceFits v w (dv + dw + length roots) (dv + dw) len ta ls pl
+  pub turn-fits : r ≡ false → PlaceFits v w (dv + dw + length roots) (dv + dw) len ls pl
   turn-fits h = going-fits v b w c (t .first-is .formed) (t .second-is .formed) (t .going) (t .first-is) (t .second-is) (t .roots-are) (test h)
 
   pub turn-small : r ≡ false → count < 16 * (pairGraph v b w c .size * pairGraph v b w c .size)

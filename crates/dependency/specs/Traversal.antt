@@ -7,12 +7,12 @@ use lib.ListN.{length, getD, replicate}
 use lib.Dec.{leb}
 use Rattle.graph.specs.Members.{raised}
 use Rattle.graph.specs.Graph.{Graph, Flags, IsList}
-use Rattle.graph.specs.Transition.{searches, unmarked, transitions, first, Ended}
+use Rattle.graph.specs.Transition.{searches, marked, transitions, first, Ended}
 use Rattle.graph.specs.declared.Place.{Place}
 use Rattle.graph.specs.declared.Place.the-variants.{Resolving, Between, Inside}
 use Rattle.ad.specs.Stored.{nodeCount}
 use Rattle.links.specs.Pair.{Formed, Stands}
-use Rattle.marks.specs.Memory.{view, marksRoom, Roomy, Cleared}
+use Rattle.marks.specs.Memory.{view, Roomy, Cleared}
 use Rattle.dependency.specs.declared.Lookup.{Lookup}
 use Rattle.dependency.specs.declared.Lookup.the-variants.{Found, Absent, Circular}
 
@@ -31,7 +31,8 @@ pub record Traversed (G : Graph) (count len : ℕ) (target stamp from followed f
   -- it was not over at any smaller count
   pub exact : (j : ℕ) → j < count → ¬ (Ended G (transitions G j (first G)))
   pub small : count ≤ 16 * (G .size * G .size)
-  pub resolved : (x : ℕ) → G .ref x ≡ true → unmarked (getD target x 0) ≡ G .links x
+  -- each reference's target is recorded: one more than its definition's root, 0 where there is none
+  pub resolved : (x : ℕ) → G .ref x ≡ true → getD target x 0 ≡ marked (G .links x)
   pub circular : Flags G (raised flag)
   pub order : List ℕ
   pub is-list : IsList G order
@@ -39,12 +40,12 @@ pub record Traversed (G : Graph) (count len : ℕ) (target stamp from followed f
   -- the whole list, each entry one more than its node, then zeros
   pub written : list ≡ map suc order ++ replicate (length list - length order) 0
 
--- What one transition of a pair asks: of the ads and the sizes, and of the place. Of what the marks hold it asks only that the
--- target recorded of the node at hand is a number of a node.
-abbrev pub PlaceFits : (v w : List ℕ) → (searches m len : ℕ) → (target list : List ℕ) → Place → Type 0
-PlaceFits v w searches m len target list (Resolving i) = i < nodeCount v + nodeCount w
-PlaceFits v w searches m len target list (Between k) = k < searches
-PlaceFits v w searches m len target list (Inside k x) = Stands v w x × (k < searches) × (m ≤ k → len < length list) × (getD target x 0 ≤ marksRoom)
+-- What one transition of a pair asks of its place, and that the list is not full where an entry may be written. It asks nothing of
+-- what the marks hold: 'each with a contract of its own over any marks, right or wrong'
+abbrev pub PlaceFits : (v w : List ℕ) → (searches m len : ℕ) → (list : List ℕ) → Place → Type 0
+PlaceFits v w searches m len list (Resolving i) = i < nodeCount v + nodeCount w
+PlaceFits v w searches m len list (Between k) = k < searches
+PlaceFits v w searches m len list (Inside k x) = Stands v w x × (k < searches) × (m ≤ k → len < length list)
 
 -- whether there is no search left, of n
 abbrev pub endedAt : Place → ℕ → Bool

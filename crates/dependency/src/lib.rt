@@ -41,14 +41,20 @@ pub struct Traversal {
     pub length: usize,
 }
 
-// Where the traversal of n nodes begins.
-fn first_place(n: usize) -> Place
-    ensures { λ r. ⌜ r ≡ cond (ltb 0 n) (Resolving 0) (Between 0) ⌝ }
+// Where the traversal of n nodes begins, with an empty list.
+fn first_position(n: usize) -> Position
+    ensures { λ r. ⌜ (r .place ≡ cond (ltb 0 n) (Resolving 0) (Between 0)) × (r .len ≡ 0) ⌝ }
 {
     if 0 < n {
-        return Place::Resolving(0);
+        return Position {
+            place: Place::Resolving(0),
+            len: 0,
+        };
     }
-    Place::Between(0)
+    Position {
+        place: Place::Between(0),
+        len: 0,
+    }
 }
 
 // Whether no search is left of n.
@@ -83,19 +89,14 @@ fn run(
     ensures { λ r. ⌜ Traversed (pairGraph (now (v .entry)) (now (b .entry)) (now (w .entry)) (now (c .entry))) (r .count) (r .length) (now (target .exit)) (now (stamp .exit)) (now (from .exit)) (now (followed .exit)) (now (flag .exit)) (now (list .exit)) ⌝ }
 {
     let n = p.definitions + q.definitions + roots.len();
-    let place = first_place(p.nodes + q.nodes);
-    let mut s = Position {
-        place: place,
-        len: 0,
-    };
+    let mut s = first_position(p.nodes + q.nodes);
     let mut count: usize = 0;
     loop {
         let at = s.place;
         if ended(at, n) {
-            let len = s.len;
             return Traversal {
                 count: count,
-                length: len,
+                length: s.len,
             };
         }
         s = rule::transition(

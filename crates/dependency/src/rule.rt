@@ -77,7 +77,7 @@ fn inside(
     list: &mut [u64],
 ) -> Position
     requires ads { ⌜ Measured (now v) (p .nodes) (p .definitions) × Measured (now w) (q .nodes) (q .definitions) × Stands (now v) (now w) x × (k < p .definitions + q .definitions + length (now roots)) × (length (now roots) ≤ 4) ⌝ }
-    requires room { ⌜ Roomy (now target) (now stamp) (now from) (now followed) (now flag) (now list) × (getD (now target) x 0 ≤ 2048) × (p .definitions + q .definitions ≤ k → len < length (now list)) ⌝ }
+    requires room { ⌜ Roomy (now target) (now stamp) (now from) (now followed) (now flag) (now list) × (p .definitions + q .definitions ≤ k → len < length (now list)) ⌝ }
     ensures { λ r. ⌜ ((b c : List ℕ) → now (roots .entry) ≡ pairGraph (now (v .entry)) b (now (w .entry)) c .roots → view (r .place) (r .len) (now (target .entry)) (now (stamp .exit)) (now (from .exit)) (now (followed .exit)) (now (flag .exit)) (now (list .exit)) ≡ transition (pairGraph (now (v .entry)) b (now (w .entry)) c) (view (Inside k x) len (now (target .entry)) (now (stamp .entry)) (now (from .entry)) (now (followed .entry)) (now (flag .entry)) (now (list .entry)))) ⌝ }
     ensures room { λ r. ⌜ Grows len (r .len) (now (list .entry)) (now (list .exit)) ⌝ }
 {
@@ -112,7 +112,7 @@ pub fn transition(
     list: &mut [u64],
 ) -> Position
     requires ads { ⌜ Measured (now v) (p .nodes) (p .definitions) × Measured (now w) (q .nodes) (q .definitions) × (now roots ≡ pairGraph (now v) (now b) (now w) (now c) .roots) ⌝ }
-    requires room { ⌜ Roomy (now target) (now stamp) (now from) (now followed) (now flag) (now list) × PlaceFits (now v) (now w) (p .definitions + q .definitions + length (now roots)) (p .definitions + q .definitions) (s .len) (now target) (now list) (s .place) ⌝ }
+    requires room { ⌜ Roomy (now target) (now stamp) (now from) (now followed) (now flag) (now list) × PlaceFits (now v) (now w) (p .definitions + q .definitions + length (now roots)) (p .definitions + q .definitions) (s .len) (now list) (s .place) ⌝ }
     ensures { λ r. ⌜ view (r .place) (r .len) (now (target .exit)) (now (stamp .exit)) (now (from .exit)) (now (followed .exit)) (now (flag .exit)) (now (list .exit)) ≡ transition (pairGraph (now (v .entry)) (now (b .entry)) (now (w .entry)) (now (c .entry))) (view (s .place) (s .len) (now (target .entry)) (now (stamp .entry)) (now (from .entry)) (now (followed .entry)) (now (flag .entry)) (now (list .entry))) ⌝ }
     ensures room { λ r. ⌜ Grows (s .len) (r .len) (now (list .entry)) (now (list .exit)) ⌝ }
 {

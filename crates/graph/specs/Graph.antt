@@ -12,6 +12,8 @@ use Rattle.graph.specs.Members.{_∈_, Each, Room}
 pub record Graph : Type 0 where
   pub size : ℕ
   pub node : ℕ → Bool
+  -- the numbers of nodes are below this: 'Every node of each side has its own slot, 1,024 a side.'
+  pub slots : ℕ
   pub nth : ℕ → ℕ
   -- 'An operator leads to all its operands, arms not taken included .. A reference leads to its definition'
   pub links : ℕ → List ℕ
@@ -25,6 +27,7 @@ Node G x = G .node x ≡ true
 -- what every graph of two stored ads keeps to
 pub record Sound (G : Graph) : Type 0 where
   pub room : Room (Node G) (G .size)
+  pub in-slots : (x : ℕ) → Node G x → x < G .slots
   pub nth-in : (i : ℕ) → i < G .size → Node G (G .nth i)
   pub nth-all : (x : ℕ) → Node G x → (i : ℕ) × (i < G .size) × (G .nth i ≡ x)
   pub links-in : (x : ℕ) → Each (Node G) (G .links x)

@@ -40,18 +40,19 @@ searches G = length (G .sources) + length (G .roots)
 unfoldable pub start : Graph → ℕ → ℕ
 start G k = getD (G .sources ++ G .roots) k 0
 
--- a link as a mark, and back
+-- a link as a mark
 abbrev pub marked : List ℕ → ℕ
 marked [] = 0
 marked (y ∷ ys) = suc y
 
-abbrev pub unmarked : ℕ → List ℕ
-unmarked zero = []
-unmarked (suc y) = y ∷ []
+-- the target that a mark records, right or wrong: a number beyond the slots is no node's
+unfoldable pub recordedAs : Graph → ℕ → List ℕ
+recordedAs G zero = []
+recordedAs G (suc y) = cond (ltb y (G .slots)) (y ∷ []) []
 
 -- what a node leads to by its marks: a reference to the target that was recorded, an operator to its operands
 unfoldable pub led : Graph → (ℕ → ℕ) → ℕ → List ℕ
-led G target x = cond (G .ref x) (unmarked (target x)) (G .links x)
+led G target x = cond (G .ref x) (recordedAs G (target x)) (G .links x)
 
 -- the links that search k follows: those of the list are needs
 unfoldable pub goes : Graph → ℕ → (ℕ → ℕ) → (ℕ → Bool) → ℕ → List ℕ
@@ -116,7 +117,7 @@ leave G s k x = record {
   list = cond (flags G k) (s .list) (s .list ++ suc x ∷ []);
 }
 
--- search k's root is in the list already
+-- the link to search k's root is followed, which the search has seen: 'a node already in the list is not entered again'
 abbrev pub omit : State → ℕ → State
 omit s k = record {
   place = Between (suc k);

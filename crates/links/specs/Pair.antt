@@ -65,6 +65,7 @@ unfoldable pub pairGraph : (v b w c : List ℕ) → Graph
 pairGraph v b w c = record {
   size = nodeCount v + nodeCount w;
   node = both (λ i. ltb i (nodeCount v)) (λ i. ltb i (nodeCount w));
+  slots = maxNodes + maxNodes;
   nth = λ i. cond (ltb i (nodeCount v)) i (maxNodes + (i - nodeCount v));
   links = both (λ i. map (linked false) (linksFrom v b w c i)) (λ i. map (linked true) (linksFrom w c v b i));
   ref = both (refersAt v) (refersAt w);

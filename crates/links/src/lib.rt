@@ -15,6 +15,8 @@ ghost use Rattle.graph.specs.Members.{numbers, raised};
 
 const NODES: usize = 1024;
 
+const SLOTS: usize = 2048;
+
 // How many nodes and definitions an ad has.
 pub struct Counts {
     pub nodes: usize,
@@ -66,6 +68,9 @@ pub fn led_count(v: &[u64], w: &[u64], target: &[usize], x: usize) -> usize
         if target[x] == 0 {
             return 0;
         }
+        if SLOTS < target[x] {
+            return 0;
+        }
         return 1;
     }
     stored::operands(kind)
@@ -75,7 +80,7 @@ pub fn led_count(v: &[u64], w: &[u64], target: &[usize], x: usize) -> usize
 pub fn led_to(v: &[u64], w: &[u64], target: &[usize], x: usize, i: usize) -> usize
     requires { ⌜ Formed (now v) × Formed (now w) × Stands (now v) (now w) x × (x < length (now target)) × ((b c : List ℕ) → i < length (led (pairGraph (now v) b (now w) c) (numbers (now target)) x)) ⌝ }
     ensures { λ r. ⌜ ((b c : List ℕ) → r ≡ getD (led (pairGraph (now (v .entry)) b (now (w .entry)) c) (numbers (now (target .entry))) x) i 0) ⌝ }
-    ensures small { λ r. ⌜ (getD (now (target .entry)) x 0 ≤ 2048 → r < 2048) ⌝ }
+    ensures small { λ r. ⌜ r < 2048 ⌝ }
 {
     let kind = kind_of(v, w, x);
     if stored::is_reference(kind) {

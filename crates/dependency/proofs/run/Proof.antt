@@ -22,11 +22,11 @@ add-n c = let h = definitions-fit (c .before .before .before .before .before .be
 add-n-2 : tie.Need-add-n-2 Inv-loop μ-loop
 add-n-2 c = let h = definitions-fit (c .before .before .before .before .before .before .before .before .before .before .before .before .before .pre .0 .0) in let k = definitions-fit (c .before .before .before .before .before .before .before .before .before .before .before .before .before .pre .0 .1) in let r = roots-few (now (c .before .before .before .before .before .before .before .before .before .before .before .before .before .args .b)) (now (c .before .before .before .before .before .before .before .before .before .before .before .before .before .args .c)) (c .before .before .before .before .before .before .before .before .before .before .before .before .before .pre .0 .0) (c .before .before .before .before .before .before .before .before .before .before .before .before .before .pre .0 .1) (c .before .before .before .before .before .before .before .before .before .before .before .before .before .pre .0 .2) in search needs
 
-add-first-place : tie.Need-add-first-place Inv-loop μ-loop
-add-first-place c = let h = nodes-fit (c .before .before .before .before .before .before .before .before .before .before .before .before .before .before .before .pre .0 .0) in let k = nodes-fit (c .before .before .before .before .before .before .before .before .before .before .before .before .before .before .before .pre .0 .1) in search needs
+add-first-position : tie.Need-add-first-position Inv-loop μ-loop
+add-first-position c = let h = nodes-fit (c .before .before .before .before .before .before .before .before .before .before .before .before .before .before .before .pre .0 .0) in let k = nodes-fit (c .before .before .before .before .before .before .before .before .before .before .before .before .before .before .before .pre .0 .1) in search needs
 
 loop-holds : tie.Need-loop-holds Inv-loop μ-loop
-loop-holds c = turn-first (now (c .before .before .before .before .before .before .before .before .before .before .before .before .before .before .before .before .args .b)) (now (c .before .before .before .before .before .before .before .before .before .before .before .before .before .before .before .before .args .c)) (c .before .before .before .before .before .before .before .before .before .before .before .before .before .before .before .before .pre .0 .0) (c .before .before .before .before .before .before .before .before .before .before .before .before .before .before .before .before .pre .0 .1) (c .before .before .before .before .before .before .before .before .before .before .before .before .before .before .before .before .pre .0 .2) (c .before .before .before .before .before .before .before .before .before .before .before .before .before .before .before .before .pre .1) refl (c .first-place .ensures)
+loop-holds c = turn-first (now (c .before .before .before .before .before .before .before .before .before .before .before .before .before .before .before .before .args .b)) (now (c .before .before .before .before .before .before .before .before .before .before .before .before .before .before .before .before .args .c)) (c .before .before .before .before .before .before .before .before .before .before .before .before .before .before .before .before .pre .0 .0) (c .before .before .before .before .before .before .before .before .before .before .before .before .before .before .before .before .pre .0 .1) (c .before .before .before .before .before .before .before .before .before .before .before .before .before .before .before .before .pre .0 .2) (c .before .before .before .before .before .before .before .before .before .before .before .before .before .before .before .before .pre .1) refl (c .first-position .ensures .0) (c .first-position .ensures .1)
 
 same-length : tie.Need-same-length Inv-loop μ-loop
 same-length c = c .before .before .loop .inv .ta-same
@@ -63,5 +63,5 @@ loop-again c = turn-next (c .before .before .before .before .before .before .bef
 
 pub run-spec : {M : Type 1} → statement M
 run-spec = tie.close (tie.spec
-    Inv-loop μ-loop add-n add-n-2 add-first-place (λ c κs. search needs) loop-holds (λ c κs. search needs) same-length same-length-2 same-length-3
+    Inv-loop μ-loop add-n add-n-2 add-first-position (λ c κs. search needs) loop-holds (λ c κs. search needs) same-length same-length-2 same-length-3
     same-length-4 same-length-5 same-length-6 returns transition-requires add-count loop-less loop-again)

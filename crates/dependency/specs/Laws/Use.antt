@@ -8,8 +8,9 @@ use native.Mathlib.Omega.{arith}
 use lib.ListN.{length, getD, replicate, length-replicate}
 use Rattle.syntax.specs.Tree.{Ad}
 use Rattle.graph.specs.Members.{numbers, raised}
-use Rattle.graph.specs.Graph.{Graph, Circular, needs}
-use Rattle.graph.specs.Transition.{marked, unmarked, led}
+use Rattle.graph.specs.Graph.{Graph, Sound, Circular, needs}
+use Rattle.graph.specs.Transition.{marked, recordedAs, led}
+use Rattle.graph.specs.Laws.Traversal.{marks-back}
 use Rattle.links.specs.Pair.{StoredAd}
 use Rattle.links.specs.Laws.Layout.{stored-formed}
 use Rattle.marks.specs.Memory.{marksRoom, Clear}
@@ -41,10 +42,6 @@ ready n h s t =
       };
     }
 
-marked-back : (t : ℕ) (l : List ℕ) → unmarked t ≡ l → t ≡ marked l
-marked-back zero l e = ap marked e
-marked-back (suc y) l e = ap marked e
-
 module _ {G : Graph} {count len : ℕ} {ta st fr fo fl ls : List ℕ} (t : Traversed G count len ta st fr fo fl ls) (x : ℕ) (r : G .ref x ≡ true) where
   plain : ¬ (Circular G x) → raised fl x ≡ false
   plain n = go (raised fl x) refl
@@ -60,18 +57,18 @@ module _ {G : Graph} {count len : ℕ} {ta st fr fo fl ls : List ℕ} (t : Trave
 
   pub lookup-absent : ¬ (Circular G x) → G .links x ≡ [] → lookupOf ta fl x ≡ variant.Absent
   unfolding lookupOf
-  lookup-absent n e = rw (plain n) (ap foundAt (marked-back (getD ta x 0) [] (t .resolved x r ∙ e)))
+  lookup-absent n e = rw (plain n) (ap foundAt (t .resolved x r ∙ ap marked e))
 
   pub lookup-found : {y : ℕ} → ¬ (Circular G x) → G .links x ≡ y ∷ [] → lookupOf ta fl x ≡ variant.Found y
   unfolding lookupOf
-  lookup-found {y} n e = rw (plain n) (ap foundAt (marked-back (getD ta x 0) (y ∷ []) (t .resolved x r ∙ e)))
+  lookup-found {y} n e = rw (plain n) (ap foundAt (t .resolved x r ∙ ap marked e))
 
 -- what a node needs, by its marks
-pub needs-led : {G : Graph} {count len : ℕ} {ta st fr fo fl ls : List ℕ} → Traversed G count len ta st fr fo fl ls → (x : ℕ) →
+pub needs-led : {G : Graph} → Sound G → {count len : ℕ} {ta st fr fo fl ls : List ℕ} → Traversed G count len ta st fr fo fl ls → (x : ℕ) →
     needs G (raised fl) x ≡ cond (raised fl x) [] (led G (numbers ta) x)
 unfolding needs led
-needs-led {G} {ta = ta} {fl = fl} t x = ap (λ (l : List ℕ). cond (raised fl x) [] l) (go (G .ref x) refl)
+needs-led {G} w {ta = ta} {fl = fl} t x = ap (λ (l : List ℕ). cond (raised fl x) [] l) (go (G .ref x) refl)
   where
-    go : (b : Bool) → G .ref x ≡ b → G .links x ≡ cond b (unmarked (getD ta x 0)) (G .links x)
-    go true e = sym (t .resolved x e)
+    go : (b : Bool) → G .ref x ≡ b → G .links x ≡ cond b (recordedAs G (getD ta x 0)) (G .links x)
+    go true e = sym (ap (recordedAs G) (t .resolved x e) ∙ marks-back G w (G .links x) (w .links-in x) (w .single x e))
     go false e = refl

@@ -15,7 +15,7 @@ use Rattle.graph.specs.Laws.Members.{mem-nil, mem-append, put-same, put-
 use Rattle.graph.specs.Graph.{Graph, Sound, Node, needs}
 use Rattle.graph.specs.declared.Place.{Place}
 use Rattle.graph.specs.declared.Place.the-variants.{Resolving, Between, Inside}
-use Rattle.graph.specs.Transition.{State, flags, stampOf, start, searches, led, marked, unmarked, resolvedTo, resolve, goes, back, enter, pass, leave, omit, follow, begin, transitionAt, transition, transitions, first}
+use Rattle.graph.specs.Transition.{State, flags, stampOf, start, searches, led, recordedAs, marked, resolvedTo, resolve, goes, back, enter, pass, leave, omit, follow, begin, transitionAt, transition, transitions, first}
 use Rattle.graph.specs.Laws.Transitions.{transitions-add}
 use Rattle.graph.specs.Laws.Traversal.{traverse, Traverses, Ends, end-stays}
 
@@ -50,17 +50,21 @@ module _ (G : Graph) (w : Sound G) where
       go (inr m) = w .roots-in _ m
 
   led-ok : (target : ℕ → ℕ) → ((y p : ℕ) → target y ≡ suc p → Node G p) → (x y : ℕ) → y ∈ led G target x → Node G y
-  unfolding led
+  unfolding led recordedAs
   led-ok target f x y m = go (G .ref x) (target x) refl m
     where
       only : (t : ℕ) → target x ≡ suc t → (y ≡ t) ⊎ (y ∈ []) → Node G y
       only t e (inl q) = rw q (f x t e)
       only t e (inr k) = absurd (mem-nil k)
 
-      go : (b : Bool) (t : ℕ) → target x ≡ t → y ∈ cond b (unmarked t) (G .links x) → Node G y
+      slot : (d : Bool) (t : ℕ) → target x ≡ suc t → y ∈ cond d (t ∷ []) [] → Node G y
+      slot true t e q = only t e (mem-cons q)
+      slot false t e q = absurd (mem-nil q)
+
+      go : (b : Bool) (t : ℕ) → target x ≡ t → y ∈ cond b (recordedAs G t) (G .links x) → Node G y
       go false t e q = w .links-in x y q
       go true zero e q = absurd (mem-nil q)
-      go true (suc t) e q = only t e (mem-cons q)
+      go true (suc t) e q = slot (ltb t (G .slots)) t e q
 
   goes-ok : (k : ℕ) (t : ℕ → ℕ) → ((y p : ℕ) → t y ≡ suc p → Node G p) → (c : ℕ → Bool) (x y : ℕ) → y ∈ goes G k t c x → Node G y
   unfolding goes

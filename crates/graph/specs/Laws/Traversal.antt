@@ -19,7 +19,7 @@ use Rattle.graph.specs.Laws.Order.{entered-unique}
 use Rattle.graph.specs.Laws.DepthFirst.{Dfs, stop, seen, new, sees, reached, apart, below, cost, Found, found, found-from, ordered, as-many, entered-distinct}
 use Rattle.graph.specs.declared.Place.{Place}
 use Rattle.graph.specs.declared.Place.the-variants.{Resolving, Between}
-use Rattle.graph.specs.Transition.{State, Ended, flags, stampOf, start, searches, led, marked, unmarked, resolvedTo, resolve, goes, omit, transition, transitions, first}
+use Rattle.graph.specs.Transition.{State, Ended, flags, stampOf, start, searches, led, recordedAs, marked, resolvedTo, resolve, goes, omit, transition, transitions, first}
 use Rattle.graph.specs.Laws.Transitions.{transitions-add, transition-resolve, transition-omit, transition-end}
 use Rattle.graph.specs.Laws.Searches.{Idle, Worked, one-search}
 
@@ -171,10 +171,12 @@ module _ (G : Graph) (w : Sound G) where
       ap (λ (c : ℕ). transitions G c (first G)) (sym (add-one i)) ∙ transitions-add G i 1 (first G) in
       subst (λ (u : State). Looked (suc i) u) (sym e) (looked-step i (omega arith) (transitions G i (first G)) (looked i (omega arith)))
 
-  marks-back : (l : List ℕ) → length l ≤ 1 → unmarked (marked l) ≡ l
-  marks-back [] h = refl
-  marks-back (y ∷ []) h = refl
-  marks-back (y ∷ z ∷ zs) h = absurd (let k : suc (suc (length zs)) ≤ 1 = h in let q : ⊥ = omega arith in q)
+  -- what is recorded of a link is that link
+  pub marks-back : (l : List ℕ) → Each (Node G) l → length l ≤ 1 → recordedAs G (marked l) ≡ l
+  unfolding recordedAs
+  marks-back [] m h = refl
+  marks-back (y ∷ []) m h = rw (ltb-yes (w .in-slots y (m y (here refl)))) refl
+  marks-back (y ∷ z ∷ zs) m h = absurd (let k : suc (suc (length zs)) ≤ 1 = h in let q : ⊥ = omega arith in q)
 
   looked-resolved : (s : State) → Looked (G .size) s → (y : ℕ) → led G (s .target) y ≡ G .links y
   unfolding led recorded
@@ -185,9 +187,9 @@ module _ (G : Graph) (w : Sound G) where
           let a : s .target y ≡ recorded y = subst (λ (u : ℕ). s .target u ≡ recorded u) q (r .done i h) in
           a ∙ rw e refl
 
-      go : (b : Bool) → G .ref y ≡ b → cond b (unmarked (s .target y)) (G .links y) ≡ G .links y
+      go : (b : Bool) → G .ref y ≡ b → cond b (recordedAs G (s .target y)) (G .links y) ≡ G .links y
       go false e = refl
-      go true e = ap unmarked (at-index e (w .nth-all y (w .refs-in y e))) ∙ marks-back (G .links y) (w .single y e)
+      go true e = ap (recordedAs G) (at-index e (w .nth-all y (w .refs-in y e))) ∙ marks-back (G .links y) (w .links-in y) (w .single y e)
 
   searched-first : (s : State) → Looked (G .size) s → Searched 0 s
   unfolding resolvedTo

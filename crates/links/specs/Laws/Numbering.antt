@@ -14,7 +14,7 @@ use Rattle.syntax.specs.Bounds.{maxNodes}
 use Rattle.graph.specs.Members.{_∈_}
 use Rattle.graph.specs.Laws.Members.{eqb-yes, eqb-no, ltb-yes, ltb-no, ltb-true, at-mem}
 use Rattle.graph.specs.Graph.{Graph}
-use Rattle.graph.specs.Transition.{flags, stampOf, searches, start, led, goes, marked, unmarked}
+use Rattle.graph.specs.Transition.{flags, stampOf, searches, start, led, recordedAs, goes, marked}
 use Rattle.ad.specs.Stored.{kindAt, operandAt, rootAt, nameAt, nodeCount, definitionCount, arity, operands, isOwn, isOther, isReference, find, rootsFrom}
 use Rattle.links.specs.Pair.{numbered, linked, inside, across, linksFrom, refersAt, both, pairGraph, Formed, Measured, Stands}
 use Rattle.links.specs.Laws.Counting.{nodes-few, definitions-few, arity-few, roots-length, roots-at}
@@ -171,7 +171,7 @@ module _ (v b w c : List ℕ) (x : ℕ) (s : Stands v w x) where
     pub ref-test : pairGraph v b w c .ref x ≡ t
     ref-test = ref-is ∙ sym (te ∙ ap isReference ke)
 
-    led-recorded : t ≡ true → led (pairGraph v b w c) (numbers ta) x ≡ unmarked (getD ta x 0)
+    led-recorded : t ≡ true → led (pairGraph v b w c) (numbers ta) x ≡ recordedAs (pairGraph v b w c) (getD ta x 0)
     unfolding led
     led-recorded e = rw (ref-test ∙ e) refl
 
@@ -179,27 +179,43 @@ module _ (v b w c : List ℕ) (x : ℕ) (s : Stands v w x) where
     unfolding led
     led-links e = rw (ref-test ∙ e) refl
 
+    recorded-far : (u : ℕ) → 2048 < u → recordedAs (pairGraph v b w c) u ≡ []
+    unfolding recordedAs pairGraph
+    recorded-far zero h = refl
+    recorded-far (suc y) h = rw (ltb-no (let q : 2048 ≤ y = omega arith in q)) refl
+
+    recorded-near : (u : ℕ) → u ≢ 0 → u ≤ 2048 → recordedAs (pairGraph v b w c) u ≡ (u - 1) ∷ []
+    unfolding recordedAs pairGraph
+    recorded-near zero n h = absurd (n refl)
+    recorded-near (suc y) n h = rw (ltb-yes (let q : y < 2048 = omega arith in q)) (ap (λ (z : ℕ). z ∷ []) (let q : y ≡ suc y - 1 = omega arith in q))
+
     pub count-none : t ≡ true → getD ta x 0 ≡ 0 → 0 ≡ length (led (pairGraph v b w c) (numbers ta) x)
-    count-none e z = sym (ap length (led-recorded e ∙ ap unmarked z))
+    unfolding recordedAs
+    count-none e z = sym (ap length (led-recorded e ∙ ap (recordedAs (pairGraph v b w c)) z))
 
-    pub count-one : t ≡ true → getD ta x 0 ≢ 0 → 1 ≡ length (led (pairGraph v b w c) (numbers ta) x)
-    count-one e z = sym (ap length (led-recorded e) ∙ go (getD ta x 0) z)
-      where
-        go : (u : ℕ) → u ≢ 0 → length (unmarked u) ≡ 1
-        go zero q = absurd (q refl)
-        go (suc y) q = refl
+    pub count-far : t ≡ true → 2048 < getD ta x 0 → 0 ≡ length (led (pairGraph v b w c) (numbers ta) x)
+    count-far e z = sym (ap length (led-recorded e ∙ recorded-far (getD ta x 0) z))
 
-    target-at : (u i : ℕ) → i < length (unmarked u) → (1 ≤ u) × (u - 1 ≡ getD (unmarked u) i 0)
+    pub count-one : t ≡ true → getD ta x 0 ≢ 0 → getD ta x 0 ≤ 2048 → 1 ≡ length (led (pairGraph v b w c) (numbers ta) x)
+    count-one e z h = sym (ap length (led-recorded e ∙ recorded-near (getD ta x 0) z h))
+
+    -- a target that leads somewhere is the number of a slot
+    target-at : (u i : ℕ) → i < length (recordedAs (pairGraph v b w c) u) → (1 ≤ u) × (u ≤ 2048) × (u - 1 ≡ getD (recordedAs (pairGraph v b w c) u) i 0)
+    unfolding recordedAs pairGraph
     target-at zero i h = absurd (let q : ⊥ = omega arith in q)
-    target-at (suc y) zero h = (omega arith, omega arith)
-    target-at (suc y) (suc i) h = absurd (let z : suc i < 1 = h in let q : ⊥ = omega arith in q)
+    target-at (suc y) i h = go (decLt y 2048) i h
+      where
+        go : Dec (y < 2048) → (i : ℕ) → i < length (cond (ltb y 2048) (y ∷ []) []) → (1 ≤ suc y) × (suc y ≤ 2048) × (suc y - 1 ≡ getD (cond (ltb y 2048) (y ∷ []) []) i 0)
+        go (yes l) zero k = (omega arith, omega arith, rw (ltb-yes l) (omega arith))
+        go (yes l) (suc j) k = absurd (let z : suc j < 1 = rw (ltb-yes l) at k in let q : ⊥ = omega arith in q)
+        go (no n) j k = absurd (let l : 2048 ≤ y = let a : ¬ (y < 2048) = n in omega arith in let z : j < 0 = rw (ltb-no l) at k in let q : ⊥ = omega arith in q)
 
-    pub to-some : (i : ℕ) → t ≡ true → i < length (led (pairGraph v b w c) (numbers ta) x) → 1 ≤ getD ta x 0
-    to-some i e h = target-at (getD ta x 0) i (subst (λ (l : List ℕ). i < length l) (led-recorded e) h) .0
+    pub to-some : (i : ℕ) → t ≡ true → i < length (led (pairGraph v b w c) (numbers ta) x) → (1 ≤ getD ta x 0) × (getD ta x 0 ≤ 2048)
+    to-some i e h = let a = target-at (getD ta x 0) i (subst (λ (l : List ℕ). i < length l) (led-recorded e) h) in (a .0, a .1)
 
     pub to-target : (i : ℕ) → t ≡ true → i < length (led (pairGraph v b w c) (numbers ta) x) → getD ta x 0 - 1 ≡ getD (led (pairGraph v b w c) (numbers ta) x) i 0
     to-target i e h =
-        target-at (getD ta x 0) i (subst (λ (l : List ℕ). i < length l) (led-recorded e) h) .1 ∙ sym (ap (λ (l : List ℕ). getD l i 0) (led-recorded e))
+        target-at (getD ta x 0) i (subst (λ (l : List ℕ). i < length l) (led-recorded e) h) .2 ∙ sym (ap (λ (l : List ℕ). getD l i 0) (led-recorded e))
 
     links-first : t ≡ false → x < 1024 → led (pairGraph v b w c) (numbers ta) x ≡ map (numbered false) (operands v x)
     unfolding pairGraph

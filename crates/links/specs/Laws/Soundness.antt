@@ -191,6 +191,13 @@ module _ (v b w c : List ℕ) (fv : Formed v) (fw : Formed w) where
           let a : nodeCount v ≤ nodeCount v + (x - maxNodes) = omega arith in
           (nodeCount v + (x - maxNodes), omega arith, rw (ltb-no a) (let q : maxNodes + ((nodeCount v + (x - maxNodes)) - nodeCount v) ≡ x = omega arith in q))
 
+  sound-in-slots : (x : ℕ) → Node G x → x < maxNodes + maxNodes
+  sound-in-slots x e = go (node-sides x e)
+    where
+      go : Sides (nodeCount v) maxNodes (nodeCount w) x → x < maxNodes + maxNodes
+      go (inl h) = let a = nodes-few v in omega arith
+      go (inr (h, k)) = let a = nodes-few w in omega arith
+
   sound-links-in : (x : ℕ) → Each (Node G) (G .links x)
   unfolding pairGraph
   sound-links-in =
@@ -284,6 +291,7 @@ module _ (v b w c : List ℕ) (fv : Formed v) (fw : Formed w) where
   unfolding pairGraph
   pair-sound = record {
     room = λ l d e. room-sides (nodeCount v) maxNodes (nodeCount w) l d (λ x m. node-sides x (e x m));
+    in-slots = sound-in-slots;
     nth-in = sound-nth-in;
     nth-all = sound-nth-all;
     links-in = sound-links-in;

@@ -9,13 +9,13 @@ use Rattle.dependency.proofs.rule.transition.Statement.{statement}
 use Rattle.dependency.proofs.rule.transition.Tie as tie
 
 resolving-requires : tie.Need-resolving-requires
-resolving-requires c κs = (c .before .before .before .before .before .before .before .before .before .before .before .before .before .before .before .pre .0 .0, c .before .before .before .before .before .before .before .before .before .before .before .before .before .before .before .pre .0 .1, fits-resolving (now (c .before .before .before .before .before .before .before .before .before .before .before .before .before .before .before .args .v)) (now (c .before .before .before .before .before .before .before .before .before .before .before .before .before .before .before .args .w)) ((c .before .before .before .before .before .before .before .before .before .before .before .before .before .before .before .args .p) .definitions + (c .before .before .before .before .before .before .before .before .before .before .before .before .before .before .before .args .q) .definitions + length (now (c .before .before .before .before .before .before .before .before .before .before .before .before .before .before .before .args .roots))) ((c .before .before .before .before .before .before .before .before .before .before .before .before .before .before .before .args .p) .definitions + (c .before .before .before .before .before .before .before .before .before .before .before .before .before .before .before .args .q) .definitions) ((c .before .before .before .before .before .before .before .before .before .before .before .before .before .before .before .args .s) .len) (now (c .before .before .before .before .before .before .before .before .before .before .before .before .before .before .before .args .target)) (now (c .before .before .before .before .before .before .before .before .before .before .before .before .before .before .before .args .list)) ((c .before .before .before .before .before .before .before .before .before .before .before .before .before .before .before .args .s) .place) (c .before .before .before .before .before .before .before .before .before .before .before .before .before .before .before .pre .1 .1) (c .before .before .place .given .1), c .before .before .before .before .before .before .before .before .before .before .before .before .before .before .before .pre .1 .0 .target-room)
+resolving-requires c κs = (c .before .before .before .before .before .before .before .before .before .before .before .before .before .before .before .pre .0 .0, c .before .before .before .before .before .before .before .before .before .before .before .before .before .before .before .pre .0 .1, fits-resolving (now (c .before .before .before .before .before .before .before .before .before .before .before .before .before .before .before .args .v)) (now (c .before .before .before .before .before .before .before .before .before .before .before .before .before .before .before .args .w)) ((c .before .before .before .before .before .before .before .before .before .before .before .before .before .before .before .args .p) .definitions + (c .before .before .before .before .before .before .before .before .before .before .before .before .before .before .before .args .q) .definitions + length (now (c .before .before .before .before .before .before .before .before .before .before .before .before .before .before .before .args .roots))) ((c .before .before .before .before .before .before .before .before .before .before .before .before .before .before .before .args .p) .definitions + (c .before .before .before .before .before .before .before .before .before .before .before .before .before .before .before .args .q) .definitions) ((c .before .before .before .before .before .before .before .before .before .before .before .before .before .before .before .args .s) .len) (now (c .before .before .before .before .before .before .before .before .before .before .before .before .before .before .before .args .list)) ((c .before .before .before .before .before .before .before .before .before .before .before .before .before .before .before .args .s) .place) (c .before .before .before .before .before .before .before .before .before .before .before .before .before .before .before .pre .1 .1) (c .before .before .place .given .1), c .before .before .before .before .before .before .before .before .before .before .before .before .before .before .before .pre .1 .0 .target-room)
 
 between-requires : tie.Need-between-requires
-between-requires c κs = ((c .before .before .before .before .before .before .before .before .before .before .before .before .before .before .before .before .before .pre .0 .0, c .before .before .before .before .before .before .before .before .before .before .before .before .before .before .before .before .before .pre .0 .1, fits-between (now (c .before .before .before .before .before .before .before .before .before .before .before .before .before .before .before .before .before .args .v)) (now (c .before .before .before .before .before .before .before .before .before .before .before .before .before .before .before .before .before .args .w)) ((c .before .before .before .before .before .before .before .before .before .before .before .before .before .before .before .before .before .args .p) .definitions + (c .before .before .before .before .before .before .before .before .before .before .before .before .before .before .before .before .before .args .q) .definitions + length (now (c .before .before .before .before .before .before .before .before .before .before .before .before .before .before .before .before .before .args .roots))) ((c .before .before .before .before .before .before .before .before .before .before .before .before .before .before .before .before .before .args .p) .definitions + (c .before .before .before .before .before .before .before .before .before .before .before .before .before .before .before .before .before .args .q) .definitions) ((c .before .before .before .before .before .before .before .before .before .before .before .before .before .before .before .before .before .args .s) .len) (now (c .before .before .before .before .before .before .before .before .before .before .before .before .before .before .before .before .before .args .target)) (now (c .before .before .before .before .before .before .before .before .before .before .before .before .before .before .before .before .before .args .list)) ((c .before .before .before .before .before .before .before .before .before .before .before .before .before .before .before .before .before .args .s) .place) (c .before .before .before .before .before .before .before .before .before .before .before .before .before .before .before .before .before .pre .1 .1) (c .before .before .before .before .place2 .given .1), roots-few (now (c .before .before .before .before .before .before .before .before .before .before .before .before .before .before .before .before .before .args .b)) (now (c .before .before .before .before .before .before .before .before .before .before .before .before .before .before .before .before .before .args .c)) (c .before .before .before .before .before .before .before .before .before .before .before .before .before .before .before .before .before .pre .0 .0) (c .before .before .before .before .before .before .before .before .before .before .before .before .before .before .before .before .before .pre .0 .1) (c .before .before .before .before .before .before .before .before .before .before .before .before .before .before .before .before .before .pre .0 .2), roots-small (now (c .before .before .before .before .before .before .before .before .before .before .before .before .before .before .before .before .before .args .b)) (now (c .before .before .before .before .before .before .before .before .before .before .before .before .before .before .before .before .before .args .c)) (c .before .before .before .before .before .before .before .before .before .before .before .before .before .before .before .before .before .pre .0 .0) (c .before .before .before .before .before .before .before .before .before .before .before .before .before .before .before .before .before .pre .0 .1) (c .before .before .before .before .before .before .before .before .before .before .before .before .before .before .before .before .before .pre .0 .2)), (c .before .before .before .before .before .before .before .before .before .before .before .before .before .before .before .before .before .pre .1 .0 .stamp-room, c .before .before .before .before .before .before .before .before .before .before .before .before .before .before .before .before .before .pre .1 .0 .from-room, c .before .before .before .before .before .before .before .before .before .before .before .before .before .before .before .before .before .pre .1 .0 .followed-room))
+between-requires c κs = ((c .before .before .before .before .before .before .before .before .before .before .before .before .before .before .before .before .before .pre .0 .0, c .before .before .before .before .before .before .before .before .before .before .before .before .before .before .before .before .before .pre .0 .1, fits-between (now (c .before .before .before .before .before .before .before .before .before .before .before .before .before .before .before .before .before .args .v)) (now (c .before .before .before .before .before .before .before .before .before .before .before .before .before .before .before .before .before .args .w)) ((c .before .before .before .before .before .before .before .before .before .before .before .before .before .before .before .before .before .args .p) .definitions + (c .before .before .before .before .before .before .before .before .before .before .before .before .before .before .before .before .before .args .q) .definitions + length (now (c .before .before .before .before .before .before .before .before .before .before .before .before .before .before .before .before .before .args .roots))) ((c .before .before .before .before .before .before .before .before .before .before .before .before .before .before .before .before .before .args .p) .definitions + (c .before .before .before .before .before .before .before .before .before .before .before .before .before .before .before .before .before .args .q) .definitions) ((c .before .before .before .before .before .before .before .before .before .before .before .before .before .before .before .before .before .args .s) .len) (now (c .before .before .before .before .before .before .before .before .before .before .before .before .before .before .before .before .before .args .list)) ((c .before .before .before .before .before .before .before .before .before .before .before .before .before .before .before .before .before .args .s) .place) (c .before .before .before .before .before .before .before .before .before .before .before .before .before .before .before .before .before .pre .1 .1) (c .before .before .before .before .place2 .given .1), roots-few (now (c .before .before .before .before .before .before .before .before .before .before .before .before .before .before .before .before .before .args .b)) (now (c .before .before .before .before .before .before .before .before .before .before .before .before .before .before .before .before .before .args .c)) (c .before .before .before .before .before .before .before .before .before .before .before .before .before .before .before .before .before .pre .0 .0) (c .before .before .before .before .before .before .before .before .before .before .before .before .before .before .before .before .before .pre .0 .1) (c .before .before .before .before .before .before .before .before .before .before .before .before .before .before .before .before .before .pre .0 .2), roots-small (now (c .before .before .before .before .before .before .before .before .before .before .before .before .before .before .before .before .before .args .b)) (now (c .before .before .before .before .before .before .before .before .before .before .before .before .before .before .before .before .before .args .c)) (c .before .before .before .before .before .before .before .before .before .before .before .before .before .before .before .before .before .pre .0 .0) (c .before .before .before .before .before .before .before .before .before .before .before .before .before .before .before .before .before .pre .0 .1) (c .before .before .before .before .before .before .before .before .before .before .before .before .before .before .before .before .before .pre .0 .2)), (c .before .before .before .before .before .before .before .before .before .before .before .before .before .before .before .before .before .pre .1 .0 .stamp-room, c .before .before .before .before .before .before .before .before .before .before .before .before .before .before .before .before .before .pre .1 .0 .from-room, c .before .before .before .before .before .before .before .before .before .before .before .before .before .before .before .before .before .pre .1 .0 .followed-room))
 
 inside-requires : tie.Need-inside-requires
-inside-requires c κs = let f = fits-inside (now (c .before .before .before .before .before .before .before .before .before .before .before .before .before .before .before .before .before .before .before .before .args .v)) (now (c .before .before .before .before .before .before .before .before .before .before .before .before .before .before .before .before .before .before .before .before .args .w)) ((c .before .before .before .before .before .before .before .before .before .before .before .before .before .before .before .before .before .before .before .before .args .p) .definitions + (c .before .before .before .before .before .before .before .before .before .before .before .before .before .before .before .before .before .before .before .before .args .q) .definitions + length (now (c .before .before .before .before .before .before .before .before .before .before .before .before .before .before .before .before .before .before .before .before .args .roots))) ((c .before .before .before .before .before .before .before .before .before .before .before .before .before .before .before .before .before .before .before .before .args .p) .definitions + (c .before .before .before .before .before .before .before .before .before .before .before .before .before .before .before .before .before .before .before .before .args .q) .definitions) ((c .before .before .before .before .before .before .before .before .before .before .before .before .before .before .before .before .before .before .before .before .args .s) .len) (now (c .before .before .before .before .before .before .before .before .before .before .before .before .before .before .before .before .before .before .before .before .args .target)) (now (c .before .before .before .before .before .before .before .before .before .before .before .before .before .before .before .before .before .before .before .before .args .list)) ((c .before .before .before .before .before .before .before .before .before .before .before .before .before .before .before .before .before .before .before .before .args .s) .place) (c .before .before .before .before .before .before .before .before .before .before .before .before .before .before .before .before .before .before .before .before .pre .1 .1) (c .before .before .before .before .before .before .before .place3 .given .1) in ((c .before .before .before .before .before .before .before .before .before .before .before .before .before .before .before .before .before .before .before .before .pre .0 .0, c .before .before .before .before .before .before .before .before .before .before .before .before .before .before .before .before .before .before .before .before .pre .0 .1, f .0, f .1, roots-few (now (c .before .before .before .before .before .before .before .before .before .before .before .before .before .before .before .before .before .before .before .before .args .b)) (now (c .before .before .before .before .before .before .before .before .before .before .before .before .before .before .before .before .before .before .before .before .args .c)) (c .before .before .before .before .before .before .before .before .before .before .before .before .before .before .before .before .before .before .before .before .pre .0 .0) (c .before .before .before .before .before .before .before .before .before .before .before .before .before .before .before .before .before .before .before .before .pre .0 .1) (c .before .before .before .before .before .before .before .before .before .before .before .before .before .before .before .before .before .before .before .before .pre .0 .2)), (c .before .before .before .before .before .before .before .before .before .before .before .before .before .before .before .before .before .before .before .before .pre .1 .0, f .3, f .2))
+inside-requires c κs = let f = fits-inside (now (c .before .before .before .before .before .before .before .before .before .before .before .before .before .before .before .before .before .before .before .before .args .v)) (now (c .before .before .before .before .before .before .before .before .before .before .before .before .before .before .before .before .before .before .before .before .args .w)) ((c .before .before .before .before .before .before .before .before .before .before .before .before .before .before .before .before .before .before .before .before .args .p) .definitions + (c .before .before .before .before .before .before .before .before .before .before .before .before .before .before .before .before .before .before .before .before .args .q) .definitions + length (now (c .before .before .before .before .before .before .before .before .before .before .before .before .before .before .before .before .before .before .before .before .args .roots))) ((c .before .before .before .before .before .before .before .before .before .before .before .before .before .before .before .before .before .before .before .before .args .p) .definitions + (c .before .before .before .before .before .before .before .before .before .before .before .before .before .before .before .before .before .before .before .before .args .q) .definitions) ((c .before .before .before .before .before .before .before .before .before .before .before .before .before .before .before .before .before .before .before .before .args .s) .len) (now (c .before .before .before .before .before .before .before .before .before .before .before .before .before .before .before .before .before .before .before .before .args .list)) ((c .before .before .before .before .before .before .before .before .before .before .before .before .before .before .before .before .before .before .before .before .args .s) .place) (c .before .before .before .before .before .before .before .before .before .before .before .before .before .before .before .before .before .before .before .before .pre .1 .1) (c .before .before .before .before .before .before .before .place3 .given .1) in ((c .before .before .before .before .before .before .before .before .before .before .before .before .before .before .before .before .before .before .before .before .pre .0 .0, c .before .before .before .before .before .before .before .before .before .before .before .before .before .before .before .before .before .before .before .before .pre .0 .1, f .0, f .1, roots-few (now (c .before .before .before .before .before .before .before .before .before .before .before .before .before .before .before .before .before .before .before .before .args .b)) (now (c .before .before .before .before .before .before .before .before .before .before .before .before .before .before .before .before .before .before .before .before .args .c)) (c .before .before .before .before .before .before .before .before .before .before .before .before .before .before .before .before .before .before .before .before .pre .0 .0) (c .before .before .before .before .before .before .before .before .before .before .before .before .before .before .before .before .before .before .before .before .pre .0 .1) (c .before .before .before .before .before .before .before .before .before .before .before .before .before .before .before .before .before .before .before .before .pre .0 .2)), (c .before .before .before .before .before .before .before .before .before .before .before .before .before .before .before .before .before .before .before .before .pre .1 .0, f .2))
 
 returns : tie.Need-returns
 returns c = (rw (c .before .before .before .before .before .place .given .1) (c .before .before .resolving .ensures .0 _ _ _ _ _), kept-grows _ (c .before .before .resolving .ensures .1))
