@@ -4,3 +4,4 @@ pub mod Soundness
 pub mod Layout
 pub mod Numbering
 pub mod Roots
+pub mod Finding

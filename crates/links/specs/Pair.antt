@@ -9,7 +9,8 @@ use lib.ListN.{length}
 use lib.Dec.{ltb}
 use Rattle.text.specs.Bytes.{bytes}
 use Rattle.syntax.specs.Bounds.{maxNodes, maxDefinitions}
-use Rattle.syntax.specs.Tree.{Definition, Ad, nodes}
+use Rattle.text.specs.Strings.{sameName}
+use Rattle.syntax.specs.Tree.{Definition, Ad, size, nodes}
 use Rattle.ad.specs.Layout.{Named, adWords, storedWords, storedBytes}
 use Rattle.graph.specs.Members.{_∈_, Each}
 use Rattle.graph.specs.Graph.{Graph}
@@ -72,6 +73,13 @@ pairGraph v b w c = record {
   sources = rootsFrom v 0 (definitionCount v) ++ map (numbered true) (rootsFrom w 0 (definitionCount w));
   roots = rootsOf false v b requirements ++ (rootsOf true w c requirements ++ (rootsOf false v b rank ++ rootsOf true w c rank));
 }
+
+-- '`name` finds its definition': in the tree a, whose first node has the number n, the last node of the first definition whose name
+-- matches; none where 'none found'
+unfoldable pub definitionAt : ℕ → List ℕ → Ad → List ℕ
+definitionAt n name [] = []
+definitionAt n name (d ∷ ds) =
+    cond (sameName (d .name) name) ((n + size (d .expression) - 1) ∷ []) (definitionAt (n + size (d .expression)) name ds)
 
 -- What a well-formed stored ad keeps to, of the facts that the traversal goes by.
 pub record Formed (w : List ℕ) : Type 0 where
