@@ -13,11 +13,13 @@ use Rattle.syntax.specs.declared.Unary.the-variants.{Not, Plus, Minus}
 
 -- ---- the kinds of nodes: no kind is 0, so that unused room is no node
 
+-- 'A node is .. an operator': the kinds of 'unary `! + -`'
 abbrev pub unaryKind : Unary → ℕ
 unaryKind Not = 9
 unaryKind Plus = 10
 unaryKind Minus = 11
 
+-- the kinds of the binary operators, from `||` to `* / %`, loosest first; 12 is `? :`
 abbrev pub binaryKind : Binary → ℕ
 binaryKind Or = 13
 binaryKind And = 14
@@ -35,6 +37,7 @@ binaryKind Multiply = 25
 binaryKind Divide = 26
 binaryKind Remainder = 27
 
+-- 'Reference: `name` or `other.name`'
 unfoldable pub scopeKind : Scope → ℕ
 scopeKind own = 7
 scopeKind other = 8
@@ -54,6 +57,7 @@ literalNode o (string l) = node 6 o (length l) 0
 
 -- ---- the bytes: names and strings one after the other in text order, unshared
 
+-- the bytes of a literal: 'String', after its escapes; no other literal has any
 unfoldable pub literalBytes : Literal → List ℕ
 literalBytes undefined = []
 literalBytes error = []
@@ -62,6 +66,7 @@ literalBytes (integer n) = []
 literalBytes (real n places) = []
 literalBytes (string l) = l
 
+-- the bytes of an expression: 'Names .. are kept as written'
 unfoldable pub exprBytes : Expr → List ℕ
 exprBytes (literal l) = literalBytes l
 exprBytes (reference s w) = w
@@ -69,6 +74,7 @@ exprBytes (unary u a) = exprBytes a
 exprBytes (binary j a b) = exprBytes a ++ exprBytes b
 exprBytes (conditional a b c) = exprBytes a ++ (exprBytes b ++ exprBytes c)
 
+-- the bytes of an ad: each definition's name, then those of its expression
 unfoldable pub adBytes : Ad → List ℕ
 adBytes [] = []
 adBytes (d ∷ ds) = d .name ++ (exprBytes (d .expression) ++ adBytes ds)
@@ -97,6 +103,8 @@ adNodes n o (d ∷ ds) =
 
 -- ---- the definitions: a name's offset, its length, and the number of the expression's last node
 
+-- the definitions of an ad, the first of whose nodes has the number n, and whose bytes are stored from o on: 'definitions, order,
+-- names as written'
 unfoldable pub adDefinitions : ℕ → ℕ → Ad → List ℕ
 adDefinitions n o [] = []
 adDefinitions n o (d ∷ ds) =
@@ -114,6 +122,7 @@ Named (d ∷ ds) = (0 < length (d .name)) × Named ds
 abbrev pub nodeWords : ℕ
 nodeWords = 4096
 
+-- the words in all, 4,096 + 768
 abbrev pub adWords : ℕ
 adWords = 4864
 

@@ -30,9 +30,11 @@ nodeCount w = leading (kindAt w) 0 maxNodes
 abbrev pub offsetAt : List ℕ → ℕ → ℕ
 offsetAt w j = getD w (nodeWords + 3 * j) 0
 
+-- definition j: its name's length
 abbrev pub lengthAt : List ℕ → ℕ → ℕ
 lengthAt w j = getD w (nodeWords + 3 * j + 1) 0
 
+-- definition j: the node of its expression
 abbrev pub rootAt : List ℕ → ℕ → ℕ
 rootAt w j = getD w (nodeWords + 3 * j + 2) 0
 
@@ -52,9 +54,11 @@ arity k = cond (ltb k 9) 0 (cond (ltb k 12) 1 (cond (eqb k 12) 3 (cond (ltb k 28
 abbrev pub isOwn : ℕ → Bool
 isOwn k = eqb k 7
 
+-- a reference `other.name`
 abbrev pub isOther : ℕ → Bool
 isOther k = eqb k 8
 
+-- 'Reference: `name` or `other.name`'
 abbrev pub isReference : ℕ → Bool
 isReference k = isOwn k || isOther k
 

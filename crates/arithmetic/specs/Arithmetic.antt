@@ -38,6 +38,7 @@ arithmeticResult op (Integers x y) = integersResult op x y
 arithmeticResult op (Reals x y) = Real (realsResult op x y)
 arithmeticResult op (Strings s o n t p m) = Error
 
+-- 'Strict operators are arithmetic ..'; 'Arithmetic admits two numbers'
 abbrev pub arithmeticValue : Arithmetic → Value → Value → Value
 arithmeticValue op a b = arithmeticResult op (operandsOf (numberOnly a) (numberOnly b))
 

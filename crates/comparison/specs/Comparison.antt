@@ -18,6 +18,7 @@ use Rattle.comparison.specs.declared.Comparison.{Comparison}
 use Rattle.comparison.specs.declared.Comparison.the-variants.{Equal, NotEqual, Below, AtMost, Above, AtLeast}
 use Rattle.operands.specs.Operands.{operandsOf}
 
+-- 'the six comparisons' of two Integers, by the order of the whole numbers
 abbrev pub integersCompare : Comparison → ℕ → ℕ → Bool
 integersCompare Equal x y = eqb x y
 integersCompare NotEqual x y = not (eqb x y)

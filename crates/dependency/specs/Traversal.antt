@@ -55,9 +55,11 @@ endedAt (Inside k x) n = false
 
 -- ---- what is found of a reference when the traversal is over, from its marks alone
 
+-- what a recorded target says: 'none found', or the definition found
 abbrev pub foundAt : ℕ → Lookup
 foundAt zero = Absent
 foundAt (suc y) = Found y
 
+-- 'A reference that leads .. back to itself is circular', whatever was found
 unfoldable pub lookupOf : (target flag : List ℕ) → ℕ → Lookup
 lookupOf target flag x = cond (raised flag x) Circular (foundAt (getD target x 0))

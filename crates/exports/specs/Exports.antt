@@ -37,6 +37,7 @@ binaryOf k =
     (cond (eqb k 27) (two.Operator Remainder)
     two.Nothing))))))))))))))
 
+-- the unary operators by the kinds of their nodes
 abbrev pub unaryOf : ℕ → One
 unaryOf k =
     cond (eqb k 9) (one.Operator Not)
@@ -54,9 +55,11 @@ abbrev pub binarySlot : List ℕ → List ℕ → Two → Slot → Slot → Slot
 binarySlot first second two.Nothing a b = Blank
 binarySlot first second (two.Operator op) a b = withHeld a (λ x. withHeld b (λ y. Held (binaryValue first second op x y)))
 
+-- the same for an operator of one operand
 abbrev pub unarySlot : One → Slot → Slot
 unarySlot one.Nothing a = Blank
 unarySlot (one.Operator op) a = withHeld a (λ x. Held (unaryValue op x))
 
+-- the same for `? :`
 abbrev pub conditionalSlot : Slot → Slot → Slot → Slot
 conditionalSlot p a b = withHeld p (λ x. withHeld a (λ y. withHeld b (λ z. Held (conditionalValue x y z))))

@@ -24,12 +24,15 @@ Within s at t m o (Refused k q) = Unit {0}
 abbrev pub ConditionalOk : List ℕ → ℕ → ℕ → Mark → ℕ → Memory → Memory → Read → Type 0
 ConditionalOk s at d m o w w′ r = (f : ℕ) → 16 * left s at + 10 < f → Agrees s m w w′ (conditionalAt limits f (tokensAt s at) d (m .nodes + o)) r
 
+-- the same for the operands of operators that bind at b
 abbrev pub BinaryOk : List ℕ → ℕ → ℕ → ℕ → Mark → ℕ → Memory → Memory → Read → Type 0
 BinaryOk s at b d m o w w′ r = (f : ℕ) → 16 * left s at + (10 - b) < f → Agrees s m w w′ (binaryAt limits f (tokensAt s at) b d (m .nodes + o)) r
 
+-- the same for 'unary `! + -`'
 abbrev pub UnaryOk : List ℕ → ℕ → ℕ → Mark → ℕ → Memory → Memory → Read → Type 0
 UnaryOk s at d m o w w′ r = (f : ℕ) → 16 * left s at + 2 < f → Agrees s m w w′ (unaryAt limits f (tokensAt s at) d (m .nodes + o)) r
 
+-- the same for 'literals, references and parentheses'
 abbrev pub PrimaryOk : List ℕ → ℕ → ℕ → Mark → ℕ → Memory → Memory → Read → Type 0
 PrimaryOk s at d m o w w′ r = (f : ℕ) → 16 * left s at + 1 < f → Agrees s m w w′ (primaryAt limits f (tokensAt s at) d (m .nodes + o)) r
 
@@ -38,6 +41,7 @@ abbrev pub ArmsOk : List ℕ → ℕ → ℕ → Mark → ℕ → Memory → Mem
 ArmsOk s at d m o w w′ r =
     (f : ℕ) → 16 * left s at + 11 < f → (m₀ : Mark) (e : Expr) (v : Memory) → m ≡ past m₀ e → w ≡ written v m₀ e → Agrees s m₀ v w′ (armsAt limits f (tokensAt s at) d (m .nodes + o) e) r
 
+-- behind a left operand e of operators that bind at b: 'Binary operators group to the left.'
 abbrev pub RestOk : List ℕ → ℕ → ℕ → ℕ → Mark → ℕ → Memory → Memory → Read → Type 0
 RestOk s at b d m o w w′ r =
     (f : ℕ) → 16 * left s at + 11 < f → (m₀ : Mark) (e : Expr) (v : Memory) → m ≡ past m₀ e → w ≡ written v m₀ e → Agrees s m₀ v w′ (restAt limits f (tokensAt s at) b d (m .nodes + o) e) r

@@ -21,6 +21,7 @@ pub record Graph : Type 0 where
   pub sources : List ℕ
   pub roots : List ℕ
 
+-- x is a node of the graph: 'A node is a literal, a reference or an operator.'
 abbrev pub Node : Graph → ℕ → Type 0
 Node G x = G .node x ≡ true
 

@@ -17,6 +17,7 @@ pub data Distinct : List ℕ → Type 0 where
   dnil : Distinct []
   dcons : {x : ℕ} {xs : List ℕ} → ¬ (x ∈ xs) → Distinct xs → Distinct (x ∷ xs)
 
+-- each of the list is P
 abbrev pub Each : (ℕ → Type 0) → List ℕ → Type 0
 Each P l = (x : ℕ) → x ∈ l → P x
 
@@ -33,5 +34,6 @@ module _ {A : Type 0} where
 abbrev pub numbers : List ℕ → ℕ → ℕ
 numbers l x = getD l x 0
 
+-- a list of numbers as flags, set where it holds 1
 abbrev pub raised : List ℕ → ℕ → Bool
 raised l x = eqb (getD l x 0) 1

@@ -33,6 +33,7 @@ flags G k = ltb k (length (G .sources))
 unfoldable pub stampOf : Graph → ℕ → ℕ
 stampOf G k = cond (flags G k) (suc k) (suc (length (G .sources)))
 
+-- how many searches there are: one for each definition, then those that make the list
 unfoldable pub searches : Graph → ℕ
 searches G = length (G .sources) + length (G .roots)
 
@@ -136,12 +137,14 @@ unfoldable pub follow : Graph → State → ℕ → ℕ → List ℕ → State
 follow G s k x [] = leave G s k x
 follow G s k x (y ∷ ys) = cond (eqb (s .stamp y) (stampOf G k)) (pass G s k x y) (enter G s k y (suc x))
 
+-- between two searches: the next begins, unless its root was seen; the last leaves all as it is
 unfoldable pub begin : Graph → State → ℕ → State
 begin G s k =
     cond (ltb k (searches G))
     (cond (eqb (s .stamp (start G k)) (stampOf G k)) (omit s k) (enter G s k (start G k) 0))
     s
 
+-- the transition from a place: 'a move follows one link, or marks, leaves or enters one node'
 unfoldable pub transitionAt : Graph → State → Place → State
 transitionAt G s (Resolving i) = resolve G s i (G .nth i)
 transitionAt G s (Between k) = begin G s k

@@ -14,28 +14,35 @@ use Rattle.values.specs.Values.{kinds, bytesAt}
 abbrev other : {A : Type 0} → A → Bool
 other x = false
 
+-- the same for the column of Strings
 abbrev otherString : Bool → ℕ → ℕ → Bool
 otherString side offset length = false
 
--- '`is`: same kind and same value; Strings byte for byte; Reals numerically, so not-a-number is never itself and 0.0 is -0.0.'
+-- '`is`: same kind and same value': what is the same as Undefined
 abbrev pub sameUndefined : Value → Bool
 sameUndefined = kinds true false other other other otherString
 
+-- .. as Error
 abbrev pub sameError : Value → Bool
 sameError = kinds false true other other other otherString
 
+-- .. as a Boolean
 abbrev pub sameBoolean : Bool → Value → Bool
 sameBoolean x = kinds false false (Bool·beq x) other other otherString
 
+-- .. as an Integer
 abbrev pub sameInteger : ℕ → Value → Bool
 sameInteger x = kinds false false other (eqb x) other otherString
 
+-- 'Reals numerically, so not-a-number is never itself and 0.0 is -0.0'
 abbrev pub sameReal : Float → Value → Bool
 sameReal x = kinds false false other other (Ieee.eq x) otherString
 
+-- 'Strings byte for byte'
 abbrev pub sameString : List ℕ → List ℕ → List ℕ → Value → Bool
 sameString first second s = kinds false false other other other (λ side offset length. sameBytes s (bytesAt first second side offset length))
 
+-- '`is`: same kind and same value; Strings byte for byte; Reals numerically ..'
 abbrev pub sameValue : List ℕ → List ℕ → Value → Value → Bool
 sameValue first second Undefined = sameUndefined
 sameValue first second Error = sameError

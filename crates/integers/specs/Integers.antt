@@ -22,12 +22,15 @@ signed w n = cond (ltb n (2 ^ (w - 1))) (pos n) (negsuc (2 ^ w - suc n))
 abbrev pub wrappedSum : ℕ → ℕ → ℕ → ℕ
 wrappedSum w a b = wrap w (signed w a +ℤ signed w b)
 
+-- .. the same for `-`
 abbrev pub wrappedDifference : ℕ → ℕ → ℕ → ℕ
 wrappedDifference w a b = wrap w (signed w a -ℤ signed w b)
 
+-- .. for `*`
 abbrev pub wrappedProduct : ℕ → ℕ → ℕ → ℕ
 wrappedProduct w a b = wrap w (signed w a *ℤ signed w b)
 
+-- .. and for 'unary `-`'
 abbrev pub wrappedNegation : ℕ → ℕ → ℕ
 wrappedNegation w a = wrap w (negℤ (signed w a))
 

@@ -19,6 +19,7 @@ pub record Mark : Type 0 where
   pub nodes : ℕ
   pub bytes : ℕ
 
+-- n nodes and k bytes are stored
 abbrev pub mark : ℕ → ℕ → Mark
 mark n k = record { nodes = n; bytes = k }
 
@@ -31,6 +32,7 @@ pub record Memory : Type 0 where
   pub words : List ℕ
   pub bytes : List ℕ
 
+-- the memory of the words w and the bytes b
 abbrev pub memory : List ℕ → List ℕ → Memory
 memory w b = record { words = w; bytes = b }
 
@@ -104,6 +106,7 @@ TextLeaf kind xs p q m o w w′ (Open x y) = ⊥
 abbrev pub otherAt : Tokens → ℕ → ℕ → Parsed
 otherAt u p c = room limits c p (λ _. want (symbol Point) u (λ v. onWord v (λ q w x. ok (reference other w) x) (λ _. misfit refused v)))
 
+-- a reference `other.name`, or the refusal, as that way gives it
 abbrev pub OtherLeaf : List ℕ → ℕ → ℕ → Mark → ℕ → Memory → Memory → Leaf → Type 0
 OtherLeaf s p at m o w w′ (Done q n k) = (e : Expr) × (otherAt (tokensAt s at) p (m .nodes + o) ≡ ok e (tokensAt s q)) × (mark n k ≡ past m e) × (w′ ≡ written w m e)
 OtherLeaf s p at m o w w′ (Refused k q) = otherAt (tokensAt s at) p (m .nodes + o) ≡ refused k q

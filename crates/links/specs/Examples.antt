@@ -164,9 +164,11 @@ to-1 = rw links-3 (here refl)
 to-0 : 0 ∈ w11-graph .links 1
 to-0 = rw links-1 (here refl)
 
+-- W11: the reference `b` in a's definition is circular
 pub w11-a : Circular w11-graph 0
 w11-a = (reference-is 0 (omega arith) kind-0, more to-3 (more to-1 (one to-0)))
 
+-- W11: the reference `a` in b's definition is circular
 pub w11-b : Circular w11-graph 1
 w11-b = (reference-is 1 (omega arith) kind-1, more to-0 (more to-3 (one to-1)))
 
@@ -203,5 +205,6 @@ leads-below : {x y : ℕ} → x < 5 → Path⁺ (w11-graph .links) x y → y < 4
 leads-below {x} {y} h (one m) = below-4 x y h m
 leads-below {x} {y} h (more {y = z} m p) = leads-below (let k : z < 4 = below-4 x z h m in omega arith) p
 
+-- W11: the reference `b` in d's definition is not
 pub w11-d : ¬ (Circular w11-graph 4)
 w11-d c = let k : 4 < 4 = leads-below (omega arith) (c .1) in omega arith

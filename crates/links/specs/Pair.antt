@@ -28,9 +28,11 @@ numbered second y = cond second (maxNodes + y) y
 abbrev pub linked : Bool → Link → ℕ
 linked second l = numbered (cond (l .0) (not second) second) (l .1)
 
+-- a link in its own ad, to node y
 abbrev pub inside : ℕ → Link
 inside y = (false, y)
 
+-- a link to the other ad, to node y there
 abbrev pub across : ℕ → Link
 across y = (true, y)
 
@@ -56,12 +58,16 @@ both p q x = cond (ltb x maxNodes) (p x) (q (x - maxNodes))
 abbrev pub rootsOf : Bool → List ℕ → List ℕ → List ℕ → List ℕ
 rootsOf second w b name = map (numbered second) (find w b name)
 
+-- 'the first ad's Requirements, the second's, ..'
 abbrev pub requirements : List ℕ
 requirements = bytes "Requirements"
 
+-- '.. the first's Rank, the second's'
 abbrev pub rank : List ℕ
 rank = bytes "Rank"
 
+-- THE GRAPH OF TWO ADS: 'An operator leads to all its operands .. A reference leads to its definition.' Its roots are 'the first
+-- ad's Requirements, the second's, the first's Rank, the second's, those that exist'
 unfoldable pub pairGraph : (v b w c : List ℕ) → Graph
 pairGraph v b w c = record {
   size = nodeCount v + nodeCount w;

@@ -17,9 +17,11 @@ row f u t o U = u
 row f u t o T = t
 row f u t o O = o
 
+-- F, as a value
 abbrev no : Value
 no = Boolean false
 
+-- T, as a value
 abbrev yes : Value
 yes = Boolean true
 
@@ -37,9 +39,11 @@ orTable U = row Undefined Undefined yes Error
 orTable T = row yes yes yes yes
 orTable O = row Error Error Error Error
 
+-- `&&` of two values, by its table
 abbrev pub andValue : Value → Value → Value
 andValue a b = andTable (truthOf a) (truthOf b)
 
+-- `||` of two values, by its table
 abbrev pub orValue : Value → Value → Value
 orValue a b = orTable (truthOf a) (truthOf b)
 

@@ -67,6 +67,7 @@ pub record Grows (len len′ : ℕ) (list list′ : List ℕ) : Type 0 where
 
 -- ---- the traversal
 
+-- a slice that holds zeros: 'clear marks'
 abbrev pub Clear : List ℕ → Type 0
 Clear l = (i : ℕ) → getD l i 0 ≡ 0
 
@@ -79,6 +80,7 @@ pub record Roomy (target stamp from followed flag list : List ℕ) : Type 0 wher
   pub flag-room : marksRoom ≤ length flag
   pub list-room : marksRoom ≤ length list
 
+-- 'clear marks and an empty list'
 pub record Cleared (target stamp from followed flag list : List ℕ) : Type 0 where
   pub target-clear : Clear target
   pub stamp-clear : Clear stamp

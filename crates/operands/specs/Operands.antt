@@ -14,6 +14,7 @@ use Rattle.operands.specs.declared.Operands.the-variants.{Refused, Missi
 abbrev refused : {A : Type 0} → A → Operands
 refused x = Refused
 
+-- the same for the column of Strings
 abbrev refusedString : Bool → ℕ → ℕ → Operands
 refusedString side offset length = Refused
 
@@ -23,15 +24,20 @@ refusedString side offset length = Refused
 abbrev pub withUndefined : Value → Operands
 withUndefined = kinds Missing Refused refused (λ y. Missing) (λ y. Missing) (λ side offset length. Missing)
 
+-- an Integer with a second operand: 'Mixed: the Integer becomes Real first.'
 abbrev pub withInteger : ℕ → Value → Operands
 withInteger x = kinds Missing Refused refused (λ y. Integers x y) (λ y. Reals (integerReal width x) y) refusedString
 
+-- a Real with a second operand
 abbrev pub withReal : Float → Value → Operands
 withReal x = kinds Missing Refused refused (λ y. Reals x (integerReal width y)) (λ y. Reals x y) refusedString
 
+-- a String with a second operand: 'two Strings'
 abbrev pub withString : Bool → ℕ → ℕ → Value → Operands
 withString side offset length = kinds Missing Refused refused refused refused (λ s o n. Strings side offset length s o n)
 
+-- what two operands are: 'If an operand is neither Undefined nor of an admitted type, or the pair is not admitted .. Else if one
+-- is Undefined .. Else the result'
 abbrev pub operandsOf : Value → Value → Operands
 operandsOf Undefined b = withUndefined b
 operandsOf Error b = Refused

@@ -30,24 +30,31 @@ Holds table = map (λ (e : Example). valueOf memory (e .text)) table ≡ map (λ
 abbrev pub integer : ℤ → Value
 integer z = Integer (wrap width z)
 
+-- an Integer's literal
 abbrev whole : ℕ → Expression
 whole n = literal (integer (pos n))
 
+-- `undefined`
 abbrev undefined : Expression
 undefined = literal Undefined
 
+-- `true`
 abbrev yes : Expression
 yes = literal (Boolean true)
 
+-- "x"
 abbrev x : Expression
 x = literal (String false 0 1)
 
+-- "One"
 abbrev One : Expression
 One = literal (String false 1 3)
 
+-- "one"
 abbrev lower-one : Expression
 lower-one = literal (String false 4 3)
 
+-- 'Examples, those marked W to be proved': W1 to W10
 unfoldable pub examples : List Example
 examples =
     -- W1: undefined || true
@@ -72,6 +79,7 @@ examples =
     ∷ record { text = binary One Equal lower-one; gives = Boolean true }
     ∷ []
 
+-- 'unary `-`'
 abbrev minus : Expression → Expression
 minus a = unary Minus a
 
@@ -83,6 +91,7 @@ lowest = literal (integer (negsuc 2147483647))
 abbrev not-a-number : Expression
 not-a-number = binary (real 0 1) Divide (real 0 1)
 
+-- the edges of 'Values': each line says which
 unfoldable pub edges : List Example
 edges =
     -- -2147483648 / -1, and %

@@ -13,7 +13,7 @@ use Rattle.arithmetic.specs.Arithmetic.{arithmeticValue, plusValue, minusValue}
 use Rattle.comparison.specs.declared.Comparison.the-variants as Comparison
 use Rattle.comparison.specs.Comparison.{comparisonValue}
 
--- first and second are the two ads' bytes
+-- the rule of each operator of two operands; first and second are the two ads' bytes: 'String values are literals of either ad'
 abbrev pub binaryValue : List ℕ → List ℕ → Binary → Value → Value → Value
 binaryValue first second Or = orValue
 binaryValue first second And = andValue
@@ -31,6 +31,7 @@ binaryValue first second Multiply = arithmeticValue Arithmetic.Product
 binaryValue first second Divide = arithmeticValue Arithmetic.Quotient
 binaryValue first second Remainder = arithmeticValue Arithmetic.Remainder
 
+-- the rule of each operator of one operand: 'unary `! + -`'
 abbrev pub unaryValue : Unary → Value → Value
 unaryValue Not = notValue
 unaryValue Plus = plusValue

@@ -13,12 +13,15 @@ use Rattle.arithmetic.specs.Arithmetic.{arithmeticResult, arithmeticValue}
 use Rattle.comparison.specs.declared.Comparison.{Comparison}
 use Rattle.comparison.specs.Comparison.{comparisonResult, comparisonValue}
 
+-- whether a value is Undefined
 abbrev pub isUndefined : Value → Bool
 isUndefined = kinds true false (λ b. false) (λ i. false) (λ r. false) (λ side offset length. false)
 
+-- whether a value is a number: Integer or Real
 abbrev pub isNumber : Value → Bool
 isNumber = kinds false false (λ b. false) (λ i. true) (λ r. true) (λ side offset length. false)
 
+-- whether a value is a String
 abbrev pub isString : Value → Bool
 isString = kinds false false (λ b. false) (λ i. false) (λ r. false) (λ side offset length. true)
 

@@ -24,6 +24,7 @@ abbrev pub wordsOf : R.Answer → List ℕ
 wordsOf (R.accepted a) = storedWords a
 wordsOf (R.denied k p) = replicate adWords 0
 
+-- the same of the bytes
 abbrev pub bytesOf : R.Answer → List ℕ
 bytesOf (R.accepted a) = storedBytes a
 bytesOf (R.denied k p) = replicate adBytesRoom 0
@@ -40,6 +41,7 @@ answer s w b = pick (small w b) (λ _. Refused 1 0) (λ _. answerOf (R.read s))
 unfoldable pub wordsAfter : List ℕ → List ℕ → List ℕ → List ℕ
 wordsAfter s w b = pick (small w b || ltb textBytes (length s)) (λ _. w) (λ _. wordsOf (R.read s) ++ drop adWords w)
 
+-- the same of the bytes
 unfoldable pub bytesAfter : List ℕ → List ℕ → List ℕ → List ℕ
 bytesAfter s w b = pick (small w b || ltb textBytes (length s)) (λ _. b) (λ _. bytesOf (R.read s) ++ drop adBytesRoom b)
 

@@ -13,6 +13,7 @@ use Rattle.values.specs.Values.{kinds, Sized}
 use Rattle.slots.specs.declared.Slot.{Slot}
 use Rattle.slots.specs.declared.Slot.the-variants.{Blank, Held}
 
+-- 'A value is one of six kinds': each has its number, and none is 0, which is blank
 abbrev pub kindOf : Value → ℕ
 kindOf = kinds 1 2 (λ b. 3) (λ x. 4) (λ x. 5) (λ side offset length. 6)
 
@@ -24,10 +25,12 @@ placeWord side offset length = cond side 1 0 * 2 ^ 32 + offset * 2 ^ 16 + length
 abbrev pub loadOf : Value → ℕ
 loadOf = kinds 0 0 (λ b. cond b 1 0) (λ x. x) (λ x. toBits binary64 x) placeWord
 
+-- 'Each slot of the table is blank or holds a value': its first word
 abbrev pub kindWord : Slot → ℕ
 kindWord Blank = 0
 kindWord (Held v) = kindOf v
 
+-- its second word
 abbrev pub loadWord : Slot → ℕ
 loadWord Blank = 0
 loadWord (Held v) = loadOf v
@@ -51,6 +54,7 @@ slotAt table i = slotOf (getD table (i * 2) 0) (getD table (i * 2 + 1) 0)
 abbrev pub putAt : List ℕ → ℕ → Slot → List ℕ
 putAt table i s = set (set table (i * 2) (kindWord s)) (i * 2 + 1) (loadWord s)
 
+-- a slot whose value fits its word
 abbrev pub SizedSlot : Slot → Type 0
 SizedSlot Blank = Unit {0}
 SizedSlot (Held v) = Sized v

@@ -17,10 +17,12 @@ use Rattle.syntax.specs.declared.Symbol.the-variants.{Assign, Question, 
 
 -- ---- tokens
 
+-- a text and the tokens that it gives
 pub record Scan : Type 0 where
   pub text : List ℕ
   pub gives : Tokens
 
+-- the tokens of document 01: longest token, places, refusals 3, 5 and 7
 unfoldable pub scans : List Scan
 scans =
     -- '`1.` is Integer, then a point.'
@@ -54,16 +56,20 @@ scanned = refl
 
 -- ---- reading
 
+-- a text and what reading it answers
 pub record Reading : Type 0 where
   pub text : List ℕ
   pub gives : Answer
 
+-- '`name = expression`'
 abbrev define : List ℕ → Expr → Definition
 define w e = record { name = w; expression = e }
 
+-- an Integer's literal
 abbrev whole : ℕ → Expr
 whole n = literal (integer n)
 
+-- 'Reference: `name`'
 abbrev name : List ℕ → Expr
 name w = reference own w
 
@@ -74,6 +80,7 @@ printing-example =
     ∷ define (bytes "B") (unary Minus (unary Minus (name (bytes "A"))))
     ∷ []
 
+-- the answers of document 01: grammar, levels, refusals 3, 4, 6 and 8 with their places
 unfoldable pub readings : List Reading
 readings =
     record { text = bytes "[]"; gives = accepted [] }
@@ -115,10 +122,12 @@ read-as = refl
 
 -- ---- printing
 
+-- a tree and its text
 pub record Printing : Type 0 where
   pub tree : Ad
   pub gives : List ℕ
 
+-- the texts of document 01: parentheses, numbers, keywords, escapes
 unfoldable pub printings : List Printing
 printings =
     record { tree = []; gives = bytes "[]" }

@@ -65,15 +65,15 @@ codeOf (symbol Parent) = 27
 abbrev pub isToken : Token → Token → Bool
 isToken x t = eqb (codeOf t) (codeOf x)
 
--- 'token does not fit the grammar, or text ends early': 4, at the token or at the text's length; a bad token has its own number
 module _ {A : Type 0} (refuse : ℕ → ℕ → A) where
+  -- 'token does not fit the grammar, or text ends early': 4, at the token or at the text's length; a bad token has its own number
   abbrev pub misfit : Tokens → A
   misfit (next p t u) = refuse 4 p
   misfit (end n) = refuse 4 n
   misfit (bad k p) = refuse k p
 
--- where the symbol or operator x is in front, go on behind it with its place; else otherwise
 module _ {A : Type 0} where
+  -- where the symbol or operator x is in front, go on behind it with its place; else otherwise
   abbrev pub onToken : Token → Tokens → (ℕ → Tokens → A) → (Unit {0} → A) → A
   onToken x (next p t u) then otherwise = pick (isToken x t) (λ _. then p u) otherwise
   onToken x (end n) then otherwise = otherwise tt

@@ -34,8 +34,8 @@ pub data Front : Type 0 where
   good : Token → ℕ → Front
   wrong : ℕ → Front
 
--- One of two, of which only the one picked is computed.
 module _ {A : Type 0} where
+  -- One of two, of which only the one picked is computed.
   abbrev pub pick : Bool → (Unit {0} → A) → (Unit {0} → A) → A
   pick true a b = a tt
   pick false a b = b tt

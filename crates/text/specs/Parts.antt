@@ -12,12 +12,15 @@ use lib.Seq.{sets, slice, slice-cons, drop-cons, drop-drop, take-suc, drop-appen
 pub drop-one : (s : List ℕ) (i : ℕ) → i < length s → drop i s ≡ getD s i 0 ∷ drop (i + 1) s
 drop-one s i h = rw (add-one i) (drop-cons s i 0 h)
 
+-- a part that ends where it begins or before is empty
 pub slice-back : (s : List ℕ) (f t : ℕ) → t ≤ f → slice f t s ≡ []
 slice-back s f t h = let e : length (take t s) ≤ f = omega (arith, length-take t s) in drop-of-length-le (take t s) e
 
+-- a part one byte longer
 pub slice-snoc : (s : List ℕ) (f i : ℕ) → f ≤ i → i < length s → slice f (i + 1) s ≡ slice f i s ++ (getD s i 0 ∷ [])
 slice-snoc s f i h h′ = rw (add-one i, take-suc s i 0 h′) (drop-append-le f (take i s) (getD s i 0 ∷ []) (omega (arith, length-take i s)))
 
+-- a part by its first byte
 pub slice-one : (s : List ℕ) (i q : ℕ) → i < q → q ≤ length s → slice i q s ≡ getD s i 0 ∷ slice (i + 1) q s
 slice-one s i q h h′ = rw (add-one i) (slice-cons i q s 0 h h′)
 
