@@ -19,7 +19,8 @@ unaryKind Not = 9
 unaryKind Plus = 10
 unaryKind Minus = 11
 
--- the kinds of the binary operators, from `||` to `* / %`, loosest first; 12 is `? :`
+-- 'A node is .. an operator': the kinds of the binary operators, from `||` to `* / %`, 'loosest first'; 12 is `? :`. The numbers
+-- are those of docs/LAYOUT.md: 'Layouts are the team's, written in docs/'
 abbrev pub binaryKind : Binary → ℕ
 binaryKind Or = 13
 binaryKind And = 14
@@ -42,11 +43,12 @@ unfoldable pub scopeKind : Scope → ℕ
 scopeKind own = 7
 scopeKind other = 8
 
--- a node: its kind, and up to three operands or data
+-- a node as it is stored: its kind, and up to three operands or data (docs/LAYOUT.md: 'Layouts are the team's, written in docs/')
 abbrev pub node : ℕ → ℕ → ℕ → ℕ → List ℕ
 node k a b c = k ∷ a ∷ b ∷ c ∷ []
 
--- a literal whose string, if it is one, is stored from byte o on
+-- 'A node is a literal ..'; a real literal's 'keeps its digits read as one whole number and the count after the point'. The
+-- string, if it is one, is stored from byte o on (docs/LAYOUT.md: 'Layouts are the team's, written in docs/')
 unfoldable pub literalNode : ℕ → Literal → List ℕ
 literalNode o undefined = node 1 0 0 0
 literalNode o error = node 2 0 0 0
@@ -74,14 +76,16 @@ exprBytes (unary u a) = exprBytes a
 exprBytes (binary j a b) = exprBytes a ++ exprBytes b
 exprBytes (conditional a b c) = exprBytes a ++ (exprBytes b ++ exprBytes c)
 
--- the bytes of an ad: each definition's name, then those of its expression
+-- the bytes of an ad: each definition's name, then those of its expression, for '16,384 bytes of names and strings'; their order
+-- is that of docs/LAYOUT.md: 'Layouts are the team's, written in docs/'
 unfoldable pub adBytes : Ad → List ℕ
 adBytes [] = []
 adBytes (d ∷ ds) = d .name ++ (exprBytes (d .expression) ++ adBytes ds)
 
 -- ---- the nodes: operands first, so that a subtree is one unbroken run of numbers and its last node is its own
 
--- the nodes of an expression, the first of which has the number n, and whose bytes are stored from o on
+-- 'A node is a literal, a reference or an operator.' The nodes of an expression, the first of which has the number n, and whose
+-- bytes are stored from o on; operands first, as docs/LAYOUT.md says: 'Layouts are the team's, written in docs/'
 unfoldable pub exprNodes : ℕ → ℕ → Expr → List ℕ
 exprNodes n o (literal l) = literalNode o l
 exprNodes n o (reference s w) = node (scopeKind s) o (length w) 0
@@ -94,7 +98,8 @@ exprNodes n o (conditional a b c) =
     ++ (exprNodes (n + size a + size b) (o + length (exprBytes a) + length (exprBytes b)) c
     ++ node 12 (n + size a - 1) (n + size a + size b - 1) (n + size a + size b + size c - 1)))
 
--- the nodes of the definitions, one after the other
+-- the nodes of the definitions, one after the other (docs/LAYOUT.md): 'Layouts are the team's, written in docs/; equal trees have
+-- equal content.'
 unfoldable pub adNodes : ℕ → ℕ → Ad → List ℕ
 adNodes n o [] = []
 adNodes n o (d ∷ ds) =
@@ -122,7 +127,7 @@ Named (d ∷ ds) = (0 < length (d .name)) × Named ds
 abbrev pub nodeWords : ℕ
 nodeWords = 4096
 
--- the words in all, 4,096 + 768
+-- the words in all, 4,096 + 768: 'room for 1,024 nodes, 256 definitions ..'
 abbrev pub adWords : ℕ
 adWords = 4864
 
@@ -134,10 +139,10 @@ adBytesRoom = 16384
 abbrev pub padded : ℕ → List ℕ → List ℕ
 padded n xs = xs ++ replicate (n - length xs) 0
 
--- what the words of a stored ad hold
+-- what the words of a stored ad hold: 'exactly this content, zeros included'
 unfoldable pub storedWords : Ad → List ℕ
 storedWords a = padded nodeWords (adNodes 0 0 a) ++ padded (adWords - nodeWords) (adDefinitions 0 0 a)
 
--- what its bytes hold
+-- what its bytes hold: 'exactly this content, zeros included'
 unfoldable pub storedBytes : Ad → List ℕ
 storedBytes a = padded adBytesRoom (adBytes a)

@@ -36,7 +36,7 @@ realsCompare AtMost x y = Ieee.le x y
 realsCompare Above x y = Ieee.lt y x
 realsCompare AtLeast x y = Ieee.le y x
 
--- what holds where the first string is less, the same or greater
+-- what holds where the first string is less, the same or greater: for 'Strings compare by bytes after ASCII lower case'
 abbrev pub byOrder : Bool → Bool → Bool → Order → Bool
 byOrder l s g Less = l
 byOrder l s g Same = s
@@ -60,6 +60,6 @@ comparisonResult first second op (Reals x y) = Boolean (realsCompare op x y)
 comparisonResult first second op (Strings s o n t p m) =
     Boolean (orderHolds op (stringOrder (bytesAt first second s o n) (bytesAt first second t p m)))
 
--- 'comparison [admits] two numbers or two Strings. Booleans are not compared.'
+-- 'Strict operators are .. the six comparisons'; 'comparison two numbers or two Strings. Booleans are not compared.'
 abbrev pub comparisonValue : List ℕ → List ℕ → Comparison → Value → Value → Value
 comparisonValue first second op a b = comparisonResult first second op (operandsOf a b)

@@ -23,9 +23,9 @@ pub record Ready (v w target stamp from followed flag list : List ℕ) : Type 0 
   pub roomy : Roomy target stamp from followed flag list
   pub cleared : Cleared target stamp from followed flag list
 
--- What the traversal of a graph comes to: 'its end is what these moves, exactly as many as it counts, make one after another of its
--- first place, clear marks and an empty list. From clear marks it ends with exactly the circular references and the list, its result
--- carrying a count of at most sixteen times the square of the nodes of both ads'
+-- What the traversal of a graph comes to: 'its end is what these moves, exactly as many as it counts, make one after another of
+-- its first place, clear marks and an empty list. From clear marks it ends with exactly the circular references and the list, its
+-- result carrying a count of at most sixteen times the square of the nodes of both ads'
 pub record Traversed (G : Graph) (count len : ℕ) (target stamp from followed flag list : List ℕ) : Type 0 where
   pub ends : view (Between (searches G)) len target stamp from followed flag list ≡ transitions G count (first G)
   -- it was not over at any smaller count
@@ -47,7 +47,7 @@ PlaceFits v w searches m len list (Resolving i) = i < nodeCount v + nodeCount w
 PlaceFits v w searches m len list (Between k) = k < searches
 PlaceFits v w searches m len list (Inside k x) = Stands v w x × (k < searches) × (m ≤ k → len < length list)
 
--- whether there is no search left, of n
+-- whether there is no search left, of n: for 'its end is what these moves .. make'
 abbrev pub endedAt : Place → ℕ → Bool
 endedAt (Resolving i) n = false
 endedAt (Between k) n = leb n k

@@ -17,7 +17,8 @@ use Rattle.exports.specs.declared.Two.the-variants as two
 use Rattle.exports.specs.declared.One.{One}
 use Rattle.exports.specs.declared.One.the-variants as one
 
--- the operators by the kinds of their nodes (docs/LAYOUT.md)
+-- the operators by the kinds of their nodes (docs/LAYOUT.md: 'Layouts are the team's, written in docs/'), in the order of
+-- 'Binding, loosest first'
 abbrev pub binaryOf : ℕ → Two
 binaryOf k =
     cond (eqb k 13) (two.Operator Or)
@@ -37,7 +38,7 @@ binaryOf k =
     (cond (eqb k 27) (two.Operator Remainder)
     two.Nothing))))))))))))))
 
--- the unary operators by the kinds of their nodes
+-- the unary operators by the kinds of their nodes (docs/LAYOUT.md: 'Layouts are the team's, written in docs/'): 'unary `! + -`'
 abbrev pub unaryOf : ℕ → One
 unaryOf k =
     cond (eqb k 9) (one.Operator Not)
@@ -45,21 +46,21 @@ unaryOf k =
     (cond (eqb k 11) (one.Operator Minus)
     one.Nothing))
 
--- blank where the operand is blank
+-- blank where the operand is blank: for 'Each slot of the table is blank or holds a value.'
 abbrev pub withHeld : Slot → (Value → Slot) → Slot
 withHeld Blank f = Blank
 withHeld (Held v) f = f v
 
--- blank where the number is no operator's or an operand is blank
+-- blank where the number is no operator's or an operand is blank, else 'what the rules make of the values'
 abbrev pub binarySlot : List ℕ → List ℕ → Two → Slot → Slot → Slot
 binarySlot first second two.Nothing a b = Blank
 binarySlot first second (two.Operator op) a b = withHeld a (λ x. withHeld b (λ y. Held (binaryValue first second op x y)))
 
--- the same for an operator of one operand
+-- the same for an operator of one operand: 'what the rules make of the values'
 abbrev pub unarySlot : One → Slot → Slot
 unarySlot one.Nothing a = Blank
 unarySlot (one.Operator op) a = withHeld a (λ x. Held (unaryValue op x))
 
--- the same for `? :`
+-- the same for `? :`, whose rule is '`?:`: F third operand, U Undefined, T second, O Error.'
 abbrev pub conditionalSlot : Slot → Slot → Slot → Slot
 conditionalSlot p a b = withHeld p (λ x. withHeld a (λ y. withHeld b (λ z. Held (conditionalValue x y z))))

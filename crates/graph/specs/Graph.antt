@@ -8,7 +8,8 @@ use lib.ListN.{length}
 use Rattle.graph.specs.Members.{_∈_, Each, Room}
 
 -- Which numbers are nodes, how many there are and which is the i-th; what each links to; which are references. `sources` are the
--- roots of the definitions, `roots` those of the four expressions that are entered, those that exist, in order.
+-- roots of the definitions, `roots` those of the four expressions that are entered, in order: 'the first ad's Requirements, the
+-- second's, the first's Rank, the second's, those that exist'.
 pub record Graph : Type 0 where
   pub size : ℕ
   pub node : ℕ → Bool
@@ -25,7 +26,8 @@ pub record Graph : Type 0 where
 abbrev pub Node : Graph → ℕ → Type 0
 Node G x = G .node x ≡ true
 
--- what every graph of two stored ads keeps to
+-- what every graph of two stored ads keeps to: for 'An operator leads to all its operands .. A reference leads to its
+-- definition.'
 pub record Sound (G : Graph) : Type 0 where
   pub room : Room (Node G) (G .size)
   pub in-slots : (x : ℕ) → Node G x → x < G .slots
@@ -50,7 +52,7 @@ pub data Path⁺ (go : ℕ → List ℕ) : ℕ → ℕ → Type 0 where
   one : {x y : ℕ} → y ∈ go x → Path⁺ go x y
   more : {x y z : ℕ} → y ∈ go x → Path⁺ go y z → Path⁺ go x z
 
--- in none or more steps
+-- in none or more steps: for 'A reference that leads, in one or more steps, back to itself'
 abbrev pub Path⋆ : (ℕ → List ℕ) → ℕ → ℕ → Type 0
 Path⋆ go x y = (x ≡ y) ⊎ Path⁺ go x y
 
@@ -58,7 +60,7 @@ Path⋆ go x y = (x ≡ y) ⊎ Path⁺ go x y
 abbrev pub Circular : Graph → ℕ → Type 0
 Circular G x = (G .ref x ≡ true) × Path⁺ (G .links) x x
 
--- the flags c mark the circular references and nothing else
+-- the flags c mark the circular references and nothing else: 'exactly the circular references'
 abbrev pub Flags : Graph → (ℕ → Bool) → Type 0
 Flags G c = (x : ℕ) → (c x ≡ true) ↔ Circular G x
 

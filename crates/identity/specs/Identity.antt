@@ -10,11 +10,11 @@ use Rattle.values.specs.declared.Value.{Value}
 use Rattle.values.specs.declared.Value.the-variants.{Undefined, Error, Boolean, Integer, Real, String}
 use Rattle.values.specs.Values.{kinds, bytesAt}
 
--- a column of another kind
+-- a column of another kind, where nothing is the same: for '`is`: same kind and same value'
 abbrev other : {A : Type 0} → A → Bool
 other x = false
 
--- the same for the column of Strings
+-- the same for the column of Strings: for '`is`: same kind and same value'
 abbrev otherString : Bool → ℕ → ℕ → Bool
 otherString side offset length = false
 
@@ -22,15 +22,15 @@ otherString side offset length = false
 abbrev pub sameUndefined : Value → Bool
 sameUndefined = kinds true false other other other otherString
 
--- .. as Error
+-- '`is`: same kind and same value': what is the same as Error
 abbrev pub sameError : Value → Bool
 sameError = kinds false true other other other otherString
 
--- .. as a Boolean
+-- '`is`: same kind and same value': what is the same as a Boolean
 abbrev pub sameBoolean : Bool → Value → Bool
 sameBoolean x = kinds false false (Bool·beq x) other other otherString
 
--- .. as an Integer
+-- '`is`: same kind and same value': what is the same as an Integer
 abbrev pub sameInteger : ℕ → Value → Bool
 sameInteger x = kinds false false other (eqb x) other otherString
 

@@ -9,12 +9,12 @@ use lib.Signed.{quotZ, remZ, ltZ}
 abbrev pub width : ℕ
 width = 32
 
--- the code of a whole number, modulo 2 ^ w
+-- the code of a whole number, modulo 2 ^ w: for 'wrap at 32 bits'
 unfoldable pub wrap : ℕ → ℤ → ℕ
 wrap w (pos n) = n % 2 ^ w
 wrap w (negsuc n) = 2 ^ w - suc (n % 2 ^ w)
 
--- the whole number of a code: the upper half of the codes stands for the negative ones
+-- the whole number of a code: the upper half of the codes stands for the negative ones: for 'wrap at 32 bits'
 unfoldable pub signed : ℕ → ℕ → ℤ
 signed w n = cond (ltb n (2 ^ (w - 1))) (pos n) (negsuc (2 ^ w - suc n))
 
@@ -22,11 +22,11 @@ signed w n = cond (ltb n (2 ^ (w - 1))) (pos n) (negsuc (2 ^ w - suc n))
 abbrev pub wrappedSum : ℕ → ℕ → ℕ → ℕ
 wrappedSum w a b = wrap w (signed w a +ℤ signed w b)
 
--- .. the same for `-`
+-- .. the same for `-`: 'Integer `+ - *` and unary `-` wrap'
 abbrev pub wrappedDifference : ℕ → ℕ → ℕ → ℕ
 wrappedDifference w a b = wrap w (signed w a -ℤ signed w b)
 
--- .. for `*`
+-- .. for `*`: 'Integer `+ - *` and unary `-` wrap'
 abbrev pub wrappedProduct : ℕ → ℕ → ℕ → ℕ
 wrappedProduct w a b = wrap w (signed w a *ℤ signed w b)
 
@@ -42,6 +42,6 @@ truncatedQuotient w a b = wrap w (quotZ (signed w a) (signed w b))
 abbrev pub signedRemainder : ℕ → ℕ → ℕ → ℕ
 signedRemainder w a b = wrap w (remZ (signed w a) (signed w b))
 
--- the order of the whole numbers
+-- the order of the whole numbers: for 'the six comparisons' of Integers
 abbrev pub lessThan : ℕ → ℕ → ℕ → Bool
 lessThan w a b = ltZ (signed w a) (signed w b)

@@ -21,22 +21,26 @@ use Rattle.links.specs.Laws.Soundness.{both-low}
 use Rattle.links.specs.Laws.Numbering.{links-own, links-operator, ref-is}
 use Rattle.links.specs.Laws.Layout.{stored-nodes, stored-definitions, stored-behind}
 
+-- 'definitions `name = expression`'
 defined-as : List ℕ → Expr → Definition
 defined-as w e = record { name = w; expression = e }
 
+-- W11's ad: 'in `[a = b; b = a is undefined; d = b]`'
 w11 : Ad
 w11 =
     defined-as (bytes "a") (reference own (bytes "b"))
     ∷ defined-as (bytes "b") (binary Is (reference own (bytes "a")) (literal undefined))
     ∷ defined-as (bytes "d") (reference own (bytes "b")) ∷ []
 
--- with an empty ad beside it
+-- W11's graph, with an empty ad beside it: for 'A reference that leads, in one or more steps, back to itself is circular'
 pub w11-graph : Graph
 w11-graph = pairGraph (storedWords w11) (storedBytes w11) (storedWords []) (storedBytes [])
 
+-- the words of W11's ad: for 'in `[a = b; b = a is undefined; d = b]`'
 W : List ℕ
 W = storedWords w11
 
+-- the bytes of W11's ad: for 'in `[a = b; b = a is undefined; d = b]`'
 B : List ℕ
 B = storedBytes w11
 
@@ -164,11 +168,11 @@ to-1 = rw links-3 (here refl)
 to-0 : 0 ∈ w11-graph .links 1
 to-0 = rw links-1 (here refl)
 
--- W11: the reference `b` in a's definition is circular
+-- W11: the reference `b` in a's definition is circular: for 'a Undefined, b true, d true'
 pub w11-a : Circular w11-graph 0
 w11-a = (reference-is 0 (omega arith) kind-0, more to-3 (more to-1 (one to-0)))
 
--- W11: the reference `a` in b's definition is circular
+-- W11: the reference `a` in b's definition is circular: for 'a Undefined, b true, d true'
 pub w11-b : Circular w11-graph 1
 w11-b = (reference-is 1 (omega arith) kind-1, more to-0 (more to-3 (one to-1)))
 
@@ -205,6 +209,6 @@ leads-below : {x y : ℕ} → x < 5 → Path⁺ (w11-graph .links) x y → y < 4
 leads-below {x} {y} h (one m) = below-4 x y h m
 leads-below {x} {y} h (more {y = z} m p) = leads-below (let k : z < 4 = below-4 x z h m in omega arith) p
 
--- W11: the reference `b` in d's definition is not
+-- W11: the reference `b` in d's definition is not: for 'a Undefined, b true, d true'
 pub w11-d : ¬ (Circular w11-graph 4)
 w11-d c = let k : 4 < 4 = leads-below (omega arith) (c .1) in omega arith

@@ -1,5 +1,5 @@
--- The graph of two ads lent side by side: v and b are the words and bytes of the first, w and c those of the second. Node x of the
--- first ad has the number x, node x of the second 1,024 + x: 'The two sides are distinct even if the same ad is lent twice.'
+-- The graph of two ads lent side by side: v and b are the words and bytes of the first, w and c those of the second. Node x of
+-- the first ad has the number x, node x of the second 1,024 + x: 'The two sides are distinct even if the same ad is lent twice.'
 -- Assumes nothing.
 use mathlib.Core.Path.{_≡_}
 use mathlib.Core.Bool.{Bool, true, false, cond, not, _&&_}
@@ -16,28 +16,29 @@ use Rattle.graph.specs.Members.{_∈_, Each}
 use Rattle.graph.specs.Graph.{Graph}
 use Rattle.ad.specs.Stored.{kindAt, nodeCount, definitionCount, isOwn, isOther, isReference, operands, nameAt, rootAt, find, rootsFrom}
 
--- A link as it is said from its own side: whether it goes to the other ad, and to which node there.
+-- A link as it is said from its own side: whether it goes to the other ad, and to which node there: for '`name` finds its
+-- definition in its own ad, `other.name` in the other'.
 abbrev pub Link : Type 0
 Link = Bool × ℕ
 
--- the number of node y of the first side, or of the second
+-- the number of node y of the first side, or of the second: 'The two sides are distinct even if the same ad is lent twice.'
 abbrev pub numbered : Bool → ℕ → ℕ
 numbered second y = cond second (maxNodes + y) y
 
--- the number of the node to which a link goes, said from the first side, or from the second
+-- the number of the node to which a link goes, said from the first side, or from the second: for 'The two sides are distinct'
 abbrev pub linked : Bool → Link → ℕ
 linked second l = numbered (cond (l .0) (not second) second) (l .1)
 
--- a link in its own ad, to node y
+-- a link in its own ad, to node y: '`name` finds its definition in its own ad'; 'An operator leads to all its operands'
 abbrev pub inside : ℕ → Link
 inside y = (false, y)
 
--- a link to the other ad, to node y there
+-- a link to the other ad, to node y there: '`other.name` in the other'
 abbrev pub across : ℕ → Link
 across y = (true, y)
 
--- what node i of an ad leads to, w′ and b′ being the other ad: '`name` finds its definition in its own ad, `other.name` in the other';
--- 'An operator leads to all its operands .. A reference leads to its definition.'
+-- what node i of an ad leads to, w′ and b′ being the other ad: '`name` finds its definition in its own ad, `other.name` in the
+-- other'; 'An operator leads to all its operands .. A reference leads to its definition.'
 unfoldable pub linksFrom : List ℕ → List ℕ → List ℕ → List ℕ → ℕ → List Link
 linksFrom w b w′ b′ i =
     cond (ltb i (nodeCount w))
@@ -46,15 +47,16 @@ linksFrom w b w′ b′ i =
     (cond (isOther (kindAt w i)) (map across (find w′ b′ (nameAt w b i))) (map inside (operands w i))))
     []
 
--- whether node i of an ad is a reference
+-- whether node i of an ad is a reference: 'A node is a literal, a reference or an operator.'
 unfoldable pub refersAt : List ℕ → ℕ → Bool
 refersAt w i = ltb i (nodeCount w) && isReference (kindAt w i)
 
--- of a pair: what the first ad says of its node, or the second of its
+-- of a pair: what the first ad says of its node, or the second of its: 'The two sides are distinct even if the same ad is lent
+-- twice.'
 unfoldable pub both : {A : Type 0} → (ℕ → A) → (ℕ → A) → ℕ → A
 both p q x = cond (ltb x maxNodes) (p x) (q (x - maxNodes))
 
--- the roots that a name has in an ad, numbered
+-- the roots that a name has in an ad, numbered: one or none, for 'those that exist'
 abbrev pub rootsOf : Bool → List ℕ → List ℕ → List ℕ → List ℕ
 rootsOf second w b name = map (numbered second) (find w b name)
 
@@ -87,24 +89,25 @@ definitionAt n name [] = []
 definitionAt n name (d ∷ ds) =
     cond (sameName (d .name) name) ((n + size (d .expression) - 1) ∷ []) (definitionAt (n + size (d .expression)) name ds)
 
--- What a well-formed stored ad keeps to, of the facts that the traversal goes by.
+-- What a well-formed stored ad keeps to, of the facts that the traversal goes by: for 'a stored ad is well formed exactly if ..'.
 pub record Formed (w : List ℕ) : Type 0 where
   pub words-room : adWords ≤ length w
   pub operands-below : (i : ℕ) → i < nodeCount w → Each (λ y. y < i) (operands w i)
   pub roots-in : (j : ℕ) → j < definitionCount w → rootAt w j < nodeCount w
   pub definitions-few : definitionCount w ≤ nodeCount w
 
--- a well-formed ad, and its counts
+-- a well-formed ad, and its counts: for 'a stored ad is well formed exactly if ..' and 'the nodes of both ads'
 pub record Measured (w : List ℕ) (n d : ℕ) : Type 0 where
   pub formed : Formed w
   pub nodes-are : n ≡ nodeCount w
   pub definitions-are : d ≡ definitionCount w
 
--- x is a node of the pair
+-- x is a node of the pair: 'a side and a node'
 abbrev pub Stands : (v w : List ℕ) → ℕ → Type 0
 Stands v w x = both (λ i. ltb i (nodeCount v)) (λ i. ltb i (nodeCount w)) x ≡ true
 
--- the memory w and b holds the ad a, which is within the bounds
+-- the memory w and b holds the ad a, which is within the bounds: for 'reading some text .. would leave exactly this content' and
+-- '256 definitions; 1,024 nodes'
 pub record StoredAd (w b : List ℕ) (a : Ad) : Type 0 where
   pub words : w ≡ storedWords a
   pub bytes-are : b ≡ storedBytes a

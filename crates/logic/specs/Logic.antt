@@ -10,18 +10,18 @@ use Rattle.values.specs.Values.{kinds}
 abbrev pub truthOf : Value → Truth
 truthOf = kinds U O (λ b. cond b T F) (λ i. O) (λ r. O) (λ side offset length. O)
 
--- what stands in a row under F, U, T and O
+-- what stands in a row under F, U, T and O: 'Tables (F, U, T, and O for anything else)'
 abbrev pub row : Value → Value → Value → Value → Truth → Value
 row f u t o F = f
 row f u t o U = u
 row f u t o T = t
 row f u t o O = o
 
--- F, as a value
+-- F, as a value: for 'Tables (F, U, T, and O for anything else)'
 abbrev no : Value
 no = Boolean false
 
--- T, as a value
+-- T, as a value: for 'Tables (F, U, T, and O for anything else)'
 abbrev yes : Value
 yes = Boolean true
 
@@ -39,11 +39,11 @@ orTable U = row Undefined Undefined yes Error
 orTable T = row yes yes yes yes
 orTable O = row Error Error Error Error
 
--- `&&` of two values, by its table
+-- `&&` of two values, by its table: 'Tables (F, U, T, and O for anything else). `&&`: ..'
 abbrev pub andValue : Value → Value → Value
 andValue a b = andTable (truthOf a) (truthOf b)
 
--- `||` of two values, by its table
+-- `||` of two values, by its table: 'Tables (F, U, T, and O for anything else). .. `||`: ..'
 abbrev pub orValue : Value → Value → Value
 orValue a b = orTable (truthOf a) (truthOf b)
 

@@ -1,5 +1,5 @@
--- The traversal's memory: the place, the marks and the list as the rule's state. An index of each slice of marks is a node's number.
--- Assumes nothing.
+-- The traversal's memory: the place, the marks and the list as the rule's state. An index of each slice of marks is a node's
+-- number. Assumes nothing.
 use mathlib.Core.Path.{_≡_}
 use mathlib.Core.Bool.{Bool, true, false, cond, _&&_}
 use mathlib.Core.List.{List, [], _∷_}
@@ -11,7 +11,8 @@ use Rattle.graph.specs.Graph.{Graph}
 use Rattle.graph.specs.Transition.{State, flags, stampOf, searches, start, goes, marked}
 use Rattle.graph.specs.declared.Place.{Place}
 
--- the state that a place, a length of the list, five slices of marks and the list's room hold
+-- the state that a place, a length of the list, five slices of marks and the list's room hold: 'the hunt's place, the marks, the
+-- list' (docs/LAYOUT.md: 'Layouts are the team's, written in docs/')
 unfoldable pub view : Place → ℕ → (target stamp from followed flag list : List ℕ) → State
 view place len target stamp from followed flag list = record {
   place = place;
@@ -23,29 +24,30 @@ view place len target stamp from followed flag list = record {
   list = take len list;
 }
 
--- the flags, one set where b holds
+-- the flags, one set where b holds: for 'changes, besides its own place, only that node's marks'
 unfoldable pub flaggedAt : List ℕ → ℕ → Bool → List ℕ
 flaggedAt flag x b = cond b (set flag x 1) flag
 
--- the room of each slice: every node of each side has its own
+-- the room of each slice: every node of each side has its own, '1,024 a side' (docs/LAYOUT.md: 'Layouts are the team's, written
+-- in docs/')
 abbrev pub marksRoom : ℕ
 marksRoom = 2048
 
 -- ---- what a transition goes by: facts of the place and of the node or link at hand, and none of the other marks
 
--- the i-th node, x, is to be resolved
+-- the i-th node, x, is to be resolved: for 'the one node or link at hand alone'
 pub record AtNode (G : Graph) (i n x found : ℕ) : Type 0 where
   pub size-is : n ≡ G .size
   pub node-is : x ≡ G .nth i
   pub found-is : found ≡ cond (G .ref x) (marked (G .links x)) 0
 
--- search k is to begin, at y
+-- search k is to begin, at y: for 'the one node or link at hand alone'
 pub record AtStart (G : Graph) (k y t : ℕ) : Type 0 where
   pub search-in : k < searches G
   pub start-is : y ≡ start G k
   pub stamp-is : t ≡ stampOf G k
 
--- search k is at x, whose next link, the i-th, goes to y
+-- search k is at x, whose next link, the i-th, goes to y: for 'the one node or link at hand alone'
 pub record AtLink (G : Graph) (k x y t i : ℕ) (closes : Bool) (target followed flag : List ℕ) : Type 0 where
   pub stamp-is : t ≡ stampOf G k
   pub index-is : i ≡ getD followed x 0
@@ -53,13 +55,13 @@ pub record AtLink (G : Graph) (k x y t i : ℕ) (closes : Bool) (target followed
   pub next-is : y ≡ getD (goes G k (numbers target) (raised flag) x) i 0
   pub closes-is : closes ≡ (flags G k && (G .ref x && eqb y (start G k)))
 
--- search k is at x, which has no link left and was entered from f
+-- search k is at x, which has no link left and was entered from f: for 'the one node or link at hand alone'
 pub record AtLast (G : Graph) (m k x f : ℕ) (target from followed flag : List ℕ) : Type 0 where
   pub sources-are : length (G .sources) ≡ m
   pub over : length (goes G k (numbers target) (raised flag) x) ≤ getD followed x 0
   pub from-is : f ≡ getD from x 0
 
--- the list grows from len to len′ entries, and what lies behind them stays
+-- the list grows from len to len′ entries, and what lies behind them stays: for 'only that node's marks or one entry of the list'
 pub record Grows (len len′ : ℕ) (list list′ : List ℕ) : Type 0 where
   pub longer : len ≤ len′
   pub fits : len ≤ length list → len′ ≤ length list
@@ -71,7 +73,7 @@ pub record Grows (len len′ : ℕ) (list list′ : List ℕ) : Type 0 where
 abbrev pub Clear : List ℕ → Type 0
 Clear l = (i : ℕ) → getD l i 0 ≡ 0
 
--- slices of marks, and of the list, long enough
+-- slices of marks, and of the list, long enough: for 'a list of 2,048 entries' and marks for 'Every node of each side'
 pub record Roomy (target stamp from followed flag list : List ℕ) : Type 0 where
   pub target-room : marksRoom ≤ length target
   pub stamp-room : marksRoom ≤ length stamp

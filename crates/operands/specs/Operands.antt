@@ -10,17 +10,17 @@ use Rattle.values.specs.Values.{kinds}
 use Rattle.operands.specs.declared.Operands.{Operands}
 use Rattle.operands.specs.declared.Operands.the-variants.{Refused, Missing, Integers, Reals, Strings}
 
--- a kind that is refused
+-- a kind that is refused: for 'neither Undefined nor of an admitted type, or the pair is not admitted: Error'
 abbrev refused : {A : Type 0} → A → Operands
 refused x = Refused
 
--- the same for the column of Strings
+-- the same for the column of Strings: for 'the pair is not admitted: Error'
 abbrev refusedString : Bool → ℕ → ℕ → Operands
 refusedString side offset length = Refused
 
--- 'If an operand is neither Undefined nor of an admitted type, or the pair is not admitted': Refused. 'Else if one is Undefined': Missing.
--- Else the two values, of the pairs that some operator admits: 'two numbers or two Strings'. 'Mixed: the Integer becomes Real first.'
--- The columns are the second operand's kinds: Undefined, Error, Boolean, Integer, Real, String
+-- 'If an operand is neither Undefined nor of an admitted type, or the pair is not admitted': Refused. 'Else if one is Undefined':
+-- Missing. Else the two values, of the pairs that some operator admits: 'two numbers or two Strings'. 'Mixed: the Integer becomes
+-- Real first.' The columns are the second operand's kinds: Undefined, Error, Boolean, Integer, Real, String
 abbrev pub withUndefined : Value → Operands
 withUndefined = kinds Missing Refused refused (λ y. Missing) (λ y. Missing) (λ side offset length. Missing)
 
@@ -28,7 +28,7 @@ withUndefined = kinds Missing Refused refused (λ y. Missing) (λ y. Missing) (�
 abbrev pub withInteger : ℕ → Value → Operands
 withInteger x = kinds Missing Refused refused (λ y. Integers x y) (λ y. Reals (integerReal width x) y) refusedString
 
--- a Real with a second operand
+-- a Real with a second operand: 'Mixed: the Integer becomes Real first.'
 abbrev pub withReal : Float → Value → Operands
 withReal x = kinds Missing Refused refused (λ y. Reals x (integerReal width y)) (λ y. Reals x y) refusedString
 

@@ -1,4 +1,5 @@
--- Document 01's worked examples W1 to W10 as one table, the edges of the rules as another, and what a table says. Assumes nothing.
+-- Document 01's worked examples W1 to W10 as one table, the edges of the rules as another, and what a table says. Assumes
+-- nothing.
 use mathlib.Core.Path.{_≡_}
 use mathlib.Core.Bool.{true, false}
 use mathlib.Core.List.{List, [], _∷_, map}
@@ -13,44 +14,44 @@ use Rattle.values.specs.declared.Value.{Value}
 use Rattle.values.specs.declared.Value.the-variants.{Undefined, Error, Boolean, Integer, Real, String}
 use Rattle.operators.specs.Expressions.{Expression, literal, real, unary, binary, conditional, valueOf}
 
--- an expression and its value
+-- an expression and its value: a line of 'Examples, those marked W to be proved'
 pub record Example : Type 0 where
   pub text : Expression
   pub gives : Value
 
--- the strings of the examples
+-- the strings of the examples: for 'their bytes are shown as a part of that ad's lent memory'
 unfoldable pub memory : List ℕ
 memory = bytes "xOneoneaB"
 
--- every example of a table gives its value
+-- every example of a table gives its value: for 'W1 to W12 stand as one statement over one table.'
 abbrev pub Holds : List Example → Type 0
 Holds table = map (λ (e : Example). valueOf memory (e .text)) table ≡ map (λ (e : Example). e .gives) table
 
--- an Integer by its whole number: negsuc n is -(n + 1)
+-- an Integer by its whole number: negsuc n is -(n + 1): for 'wrap at 32 bits'
 abbrev pub integer : ℤ → Value
 integer z = Integer (wrap width z)
 
--- an Integer's literal
+-- an Integer's literal: 'Integer: digits'
 abbrev whole : ℕ → Expression
 whole n = literal (integer (pos n))
 
--- `undefined`
+-- `undefined`, as in W5, '`undefined + 1`'
 abbrev undefined : Expression
 undefined = literal Undefined
 
--- `true`
+-- `true`, as in W1 and W2: 'Examples, those marked W to be proved'
 abbrev yes : Expression
 yes = literal (Boolean true)
 
--- "x"
+-- "x", as in W3, '`undefined && "x"`'
 abbrev x : Expression
 x = literal (String false 0 1)
 
--- "One"
+-- "One", as in W10, '`"One" == "one"`'
 abbrev One : Expression
 One = literal (String false 1 3)
 
--- "one"
+-- "one", as in W10, '`"One" == "one"`'
 abbrev lower-one : Expression
 lower-one = literal (String false 4 3)
 
@@ -83,11 +84,11 @@ examples =
 abbrev minus : Expression → Expression
 minus a = unary Minus a
 
--- -2147483648
+-- -2147483648: for '-2147483648 / -1 is -2147483648'
 abbrev lowest : Expression
 lowest = literal (integer (negsuc 2147483647))
 
--- 0.0 / 0.0
+-- 0.0 / 0.0: 'Division by 0.0 gives infinity or not-a-number, never Error.'
 abbrev not-a-number : Expression
 not-a-number = binary (real 0 1) Divide (real 0 1)
 

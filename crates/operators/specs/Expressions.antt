@@ -9,7 +9,8 @@ use Rattle.reals.specs.Reals.{literalReal}
 use Rattle.logic.specs.Logic.{conditionalValue}
 use Rattle.operators.specs.Operators.{binaryValue, unaryValue}
 
--- a real literal is kept as its digits and places
+-- expressions without references, for the examples: 'A node is a literal, .. or an operator.' A real literal is kept as its
+-- digits and places: 'its digits read as one whole number and the count after the point'
 pub data Expression : Type 0 where
   literal : Value → Expression
   real : ℕ → ℕ → Expression
@@ -17,7 +18,7 @@ pub data Expression : Type 0 where
   binary : Expression → Binary → Expression → Expression
   conditional : Expression → Expression → Expression → Expression
 
--- the value in the first ad, whose bytes are given
+-- the value in the first ad, whose bytes are given: 'what the rules make of the values of its needs'
 unfoldable pub valueOf : List ℕ → Expression → Value
 valueOf bytes (literal v) = v
 valueOf bytes (real digits places) = Real (literalReal digits places)

@@ -13,20 +13,20 @@ use Rattle.arithmetic.specs.Arithmetic.{arithmeticResult, arithmeticValue}
 use Rattle.comparison.specs.declared.Comparison.{Comparison}
 use Rattle.comparison.specs.Comparison.{comparisonResult, comparisonValue}
 
--- whether a value is Undefined
+-- whether a value is Undefined: for 'Else if one is Undefined: Undefined.'
 abbrev pub isUndefined : Value → Bool
 isUndefined = kinds true false (λ b. false) (λ i. false) (λ r. false) (λ side offset length. false)
 
--- whether a value is a number: Integer or Real
+-- whether a value is a number: Integer or Real: for 'Arithmetic admits two numbers'
 abbrev pub isNumber : Value → Bool
 isNumber = kinds false false (λ b. false) (λ i. true) (λ r. true) (λ side offset length. false)
 
--- whether a value is a String
+-- whether a value is a String: for 'comparison two numbers or two Strings'
 abbrev pub isString : Value → Bool
 isString = kinds false false (λ b. false) (λ i. false) (λ r. false) (λ side offset length. true)
 
--- 'If an operand is neither Undefined nor of an admitted type, or the pair is not admitted: Error. Else if one is Undefined: Undefined.
--- Else the result.' The pair is one of two defined operands.
+-- 'If an operand is neither Undefined nor of an admitted type, or the pair is not admitted: Error. Else if one is Undefined:
+-- Undefined. Else the result.' The pair is one of two defined operands.
 abbrev pub strict : (Value → Bool) → (Value → Value → Bool) → (Value → Value → Value) → Value → Value → Value
 strict admitted pair result a b =
     cond ((isUndefined a || admitted a) && (isUndefined b || admitted b))

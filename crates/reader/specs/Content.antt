@@ -24,7 +24,7 @@ abbrev pub wordsOf : R.Answer → List ℕ
 wordsOf (R.accepted a) = storedWords a
 wordsOf (R.denied k p) = replicate adWords 0
 
--- the same of the bytes
+-- the same of the bytes: 'Unused room is zero after acceptance'; 'ad memory zero'
 abbrev pub bytesOf : R.Answer → List ℕ
 bytesOf (R.accepted a) = storedBytes a
 bytesOf (R.denied k p) = replicate adBytesRoom 0
@@ -41,23 +41,25 @@ answer s w b = pick (small w b) (λ _. Refused 1 0) (λ _. answerOf (R.read s))
 unfoldable pub wordsAfter : List ℕ → List ℕ → List ℕ → List ℕ
 wordsAfter s w b = pick (small w b || ltb textBytes (length s)) (λ _. w) (λ _. wordsOf (R.read s) ++ drop adWords w)
 
--- the same of the bytes
+-- the same of the bytes: 'all unchanged'; 'Memory lent beyond these sizes is never changed'
 unfoldable pub bytesAfter : List ℕ → List ℕ → List ℕ → List ℕ
 bytesAfter s w b = pick (small w b || ltb textBytes (length s)) (λ _. b) (λ _. bytesOf (R.read s) ++ drop adBytesRoom b)
 
--- THE CONTRACT OF `read`: w′ and b′ are the words and bytes after it
+-- THE CONTRACT OF `read`: w′ and b′ are the words and bytes after it. 'Every public function says what it returns and what each
+-- lent slice then holds, whatever came in, refused calls too'
 pub record Answered (s w b w′ b′ : List ℕ) (r : Answer) : Type 0 where
   pub answers : r ≡ answer s w b
   pub words : w′ ≡ wordsAfter s w b
   pub bytes : b′ ≡ bytesAfter s w b
 
--- exactly the room of an ad, and a text within its bound
+-- exactly the room of an ad, and a text within its bound: 'room for 1,024 nodes, 256 definitions and 16,384 bytes of names and
+-- strings'; 'Text 16,384 bytes'
 pub record Exact (s w b : List ℕ) : Type 0 where
   pub text : length s ≤ 16384
   pub words : length w ≡ 4864
   pub bytes : length b ≡ 16384
 
--- what reading into exactly that room leaves
+-- what reading into exactly that room leaves: 'Unused room is zero after acceptance', or 'ad memory zero'
 pub record Left (p : R.Answer) (w′ b′ : List ℕ) (r : Answer) : Type 0 where
   pub answers : r ≡ answerOf p
   pub words : w′ ≡ wordsOf p

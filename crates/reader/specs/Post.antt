@@ -20,25 +20,26 @@ use Rattle.expressions.specs.declared.Read.the-variants as E
 use Rattle.reader.specs.declared.Answer.{Answer}
 use Rattle.reader.specs.declared.Answer.the-variants.{Accepted, Refused}
 
--- whether one of k stored definitions, from definition j on, has a name
+-- whether one of k stored definitions, from definition j on, has a name: for 'name defined twice'; 'Names match without regard to
+-- ASCII case'
 unfoldable pub definedIn : List ℕ → List ℕ → List ℕ → ℕ → ℕ → Bool
 definedIn w b name j zero = false
 definedIn w b name j (suc k) = sameName (bytesAt b (offsetAt w j) (lengthAt w j)) name || definedIn w b name (j + 1) k
 
--- behind the ad a
+-- behind the ad a: its nodes and bytes are stored; for 'Nodes are counted in text order'
 abbrev pub ends : Ad → Mark
 ends a = mark (nodes a) (length (adBytes a))
 
--- the memory w with the ad a in it
+-- the memory w with the ad a in it: for 'reading some text .. would leave exactly this content'
 abbrev pub storedIn : Memory → Ad → Memory
 storedIn w a = memory (sets (sets (w .words) 0 (adNodes 0 0 a)) 4096 (adDefinitions 0 0 a)) (sets (w .bytes) 0 (adBytes a))
 
--- r is p, and where that is an ad, v with the ad in it is w′
+-- r is p, and where that is an ad, v with the ad in it is w′: 'accepted with its counts, or refused with number and byte place'
 abbrev pub AgreesAd : Memory → Memory → R.Answer → Answer → Type 0
 AgreesAd v w′ p (Accepted d n) = (a : Ad) × (p ≡ R.accepted a) × (d ≡ length a) × (n ≡ nodes a) × (w′ ≡ storedIn v a) × (length (adBytes a) ≤ length (v .bytes))
 AgreesAd v w′ p (Refused k q) = p ≡ R.denied k q
 
--- what each is given
+-- what each is given: 'room for 1,024 nodes, 256 definitions and 16,384 bytes of names and strings'
 pub record AdRoom (s : List ℕ) (at d : ℕ) (m : Mark) (w : Memory) : Type 0 where
   pub place : at ≤ length s
   pub few : d ≤ 256
@@ -47,7 +48,7 @@ pub record AdRoom (s : List ℕ) (at d : ℕ) (m : Mark) (w : Memory) : Type 0 w
   pub short : m .bytes ≤ at
   pub bytes : length s ≤ length (w .bytes)
 
--- the memory holds the ad a, of d definitions and m
+-- the memory holds the ad a, of d definitions and m: for 'reading some text .. would leave exactly this content'
 pub record Holds (d : ℕ) (m : Mark) (w : Memory) (v : Memory) (a : Ad) : Type 0 where
   pub count : d ≡ length a
   pub mark-of : m ≡ ends a
@@ -58,31 +59,31 @@ pub record Holds (d : ℕ) (m : Mark) (w : Memory) (v : Memory) (a : Ad) : Type 
 abbrev pub DefinitionsOk : List ℕ → ℕ → ℕ → Mark → Memory → Memory → Answer → Type 0
 DefinitionsOk s at d m w w′ r = (f : ℕ) → left s at < f → (a : Ad) (v : Memory) → Holds d m w v a → AgreesAd v w′ (definitionsAt limits f (tokensAt s at) a (m .nodes)) r
 
--- from `;` or `]` on, behind a definition: the answer of `behindAt`
+-- from `;` or `]` on, behind a definition, the answer of `behindAt`: 'one further `;` allowed after the last, then `]`'
 abbrev pub BehindOk : List ℕ → ℕ → ℕ → Mark → Memory → Memory → Answer → Type 0
 BehindOk s at d m w w′ r = (f : ℕ) → left s at < f → (a : Ad) (v : Memory) → Holds d m w v a → AgreesAd v w′ (behindAt limits f (tokensAt s at) a (m .nodes)) r
 
--- behind `]`
+-- behind `]`: '`[`, then definitions .., then `]`', and no further token
 abbrev pub EndOk : List ℕ → ℕ → ℕ → ℕ → Answer → Type 0
 EndOk s at d n (Accepted e k) = (e ≡ d) × (k ≡ n) × ((m : ℕ) × (tokensAt s at ≡ end m))
 EndOk s at d n (Refused k p) = (a : Ad) → endA (tokensAt s at) a ≡ R.denied k p
 
--- the reader's way behind a Name w at p, from the place at on
+-- the reader's way behind a Name w at p, from the place at on: for 'definitions `name = expression`'; 'a definition at its name'
 abbrev pub definitionAt : Tokens → List ℕ → ℕ → Ad → ℕ → (Expr → Tokens → R.Answer) → R.Answer
 definitionAt u w p a c go = admit limits w p a (λ _. wantA (symbol Assign) u (λ x. afterA (conditionalAt limits (enough x) x 0 c) go))
 
--- an ad of one definition
+-- an ad of one definition: 'definitions `name = expression`'
 abbrev pub one : List ℕ → Expr → Ad
 one w e = record { name = w; expression = e } ∷ []
 
--- a definition whose Name stands from p up to q
+-- a definition whose Name stands from p up to q: 'definitions `name = expression`'; 'expression starts at level 0'
 abbrev pub DefinitionOk : List ℕ → ℕ → ℕ → ℕ → Mark → Memory → Memory → Read → Type 0
 DefinitionOk s p q d m w w′ (E.Done r n k) =
     (a : Ad) (v : Memory) → Holds d m w v a →
     (e : Expr) × ((go : Expr → Tokens → R.Answer) → definitionAt (tokensAt s q) (slice p q s) p a (m .nodes) go ≡ go e (tokensAt s r)) × (n ≡ m .nodes + size e) × Holds (d + 1) (mark n k) w′ v (a ++ one (slice p q s) e)
 DefinitionOk s p q d m w w′ (E.Refused x y) = (a : Ad) (v : Memory) → Holds d m w v a → (go : Expr → Tokens → R.Answer) → definitionAt (tokensAt s q) (slice p q s) p a (m .nodes) go ≡ R.denied x y
 
--- where the reader is behind a definition
+-- where the reader is behind a definition: for 'the falling number is bytes left' and '256 definitions; 1,024 nodes'
 abbrev pub DefinitionWithin : List ℕ → ℕ → ℕ → Read → Type 0
 DefinitionWithin s q d (E.Done r n k) = (q ≤ r) × (r ≤ length s) × (n ≤ 1024) × (d < 256) × (k ≤ r) × (left s r + 1 ≤ left s q)
 DefinitionWithin s q d (E.Refused x y) = Unit {0}

@@ -15,7 +15,8 @@ literalReal digits places = round binary64 false digits (10 ^ places)
 abbrev pub inRange : ℕ → ℕ → Bool
 inRange digits places = ltb digits (10 ^ 15) && ltb places 15
 
--- the Real of any two stored numbers, 0.0 beyond that range
+-- the Real of any two stored numbers: within that range 'the whole number of its digits divided by the power of ten of its
+-- places', and 0.0 beyond it
 abbrev pub storedReal : ℕ → ℕ → Float
 storedReal digits places = cond (inRange digits places) (literalReal digits places) (ofInt binary64 (pos 0))
 

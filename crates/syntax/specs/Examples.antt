@@ -17,12 +17,12 @@ use Rattle.syntax.specs.declared.Symbol.the-variants.{Assign, Question, 
 
 -- ---- tokens
 
--- a text and the tokens that it gives
+-- a text and the tokens that it gives: a line of `scans`, for 'Longest token wins.' and 'its first byte is the place'
 pub record Scan : Type 0 where
   pub text : List ℕ
   pub gives : Tokens
 
--- the tokens of document 01: longest token, places, refusals 3, 5 and 7
+-- the tokens of document 01: longest token, places, refusals 3, 5 and 7: 'Longest token wins.'; 'its first byte is the place'
 unfoldable pub scans : List Scan
 scans =
     -- '`1.` is Integer, then a point.'
@@ -56,7 +56,7 @@ scanned = refl
 
 -- ---- reading
 
--- a text and what reading it answers
+-- a text and what reading it answers: a line of `readings`, for 'A refusal carries its number and a place'
 pub record Reading : Type 0 where
   pub text : List ℕ
   pub gives : Answer
@@ -65,7 +65,7 @@ pub record Reading : Type 0 where
 abbrev define : List ℕ → Expr → Definition
 define w e = record { name = w; expression = e }
 
--- an Integer's literal
+-- an Integer's literal: 'Integer: digits'
 abbrev whole : ℕ → Expr
 whole n = literal (integer n)
 
@@ -73,14 +73,15 @@ whole n = literal (integer n)
 abbrev name : List ℕ → Expr
 name w = reference own w
 
--- `[ A=(1+2)+3 ;B=--A; ]`
+-- the ad of the example '`[ A=(1+2)+3 ;B=--A; ]` prints `[A = 1 + 2 + 3; B = --A]`'
 unfoldable pub printing-example : Ad
 printing-example =
     define (bytes "A") (binary Add (binary Add (whole 1) (whole 2)) (whole 3))
     ∷ define (bytes "B") (unary Minus (unary Minus (name (bytes "A"))))
     ∷ []
 
--- the answers of document 01: grammar, levels, refusals 3, 4, 6 and 8 with their places
+-- the answers of document 01: grammar, levels, refusals 3, 4, 6 and 8 with their places: 'the first token that breaks a rule
+-- decides, its first byte is the place'
 unfoldable pub readings : List Reading
 readings =
     record { text = bytes "[]"; gives = accepted [] }
@@ -122,12 +123,13 @@ read-as = refl
 
 -- ---- printing
 
--- a tree and its text
+-- a tree and its text: a line of `printings`, for 'Parentheses only where the tree would otherwise read differently.'
 pub record Printing : Type 0 where
   pub tree : Ad
   pub gives : List ℕ
 
--- the texts of document 01: parentheses, numbers, keywords, escapes
+-- the texts of document 01: parentheses, numbers, keywords, escapes: 'keywords in lower case'; 'Parentheses only where the tree
+-- would otherwise read differently. Numbers without idle leading zeros'
 unfoldable pub printings : List Printing
 printings =
     record { tree = []; gives = bytes "[]" }
@@ -144,7 +146,7 @@ printed-as : map (λ (p : Printing). printedAd (p .tree)) printings ≡ map (λ 
 unfolding printings printing-example printedAd definitionsText printed referenceText binds unaryText binaryText literalText escapedAll escaped lastDigits digits bytes
 printed-as = refl
 
--- a sum of n + 1 terms
+-- a sum of n + 1 terms: for 'a sum of 100 terms reads back as refusal 6'
 unfoldable sum : ℕ → Expr
 sum zero = whole 1
 sum (suc n) = binary Add (sum n) (whole 1)

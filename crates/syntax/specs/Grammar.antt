@@ -86,7 +86,7 @@ unfoldable pub defined : List ℕ → Ad → Bool
 defined w [] = false
 defined w (d ∷ ds) = sameName (d .name) w || defined w ds
 
--- each name of the definitions ds is new after those before it, which start with a
+-- each name of the definitions ds is new after those before it, which start with a: for 'name defined twice'
 unfoldable pub NewAfter : (List ℕ → Ad → Bool) → Ad → Ad → Type 0
 NewAfter taken a [] = Unit {0}
 NewAfter taken a (d ∷ ds) = (taken (d .name) a ≡ false) × NewAfter taken (a ++ d ∷ []) ds
@@ -95,17 +95,17 @@ NewAfter taken a (d ∷ ds) = (taken (d .name) a ≡ false) × NewAfter taken (a
 abbrev pub Distinct : Ad → Type 0
 Distinct a = NewAfter defined [] a
 
--- the bounds that count over a whole ad, and refusal 8
+-- the bounds that count over a whole ad, '256 definitions; 1,024 nodes', and refusal 8, 'name defined twice'
 pub record Within (a : Ad) : Type 0 where
   pub few-definitions : length a ≤ maxDefinitions
   pub few-nodes : nodes a ≤ maxNodes
   pub distinct : Distinct a
 
--- Follows u ts v: the tokens u are ts, and then v
+-- Follows u ts v: the tokens u are ts, and then v: what fits, against 'token does not fit the grammar'
 pub data Follows : Tokens → List Token → Tokens → Type 0 where
   none : {u : Tokens} → Follows u [] u
   some : {p : ℕ} {t : Token} {ts : List Token} {u v : Tokens} → Follows u ts v → Follows (next p t u) (t ∷ ts) v
 
--- the tokens u are ts, up to the end of the text
+-- the tokens u are ts, up to the end of the text: what fits whole, against 'token does not fit the grammar, or text ends early'
 abbrev pub Whole : Tokens → List Token → Type 0
 Whole u ts = (n : ℕ) × Follows u ts (end n)

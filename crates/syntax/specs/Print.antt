@@ -15,7 +15,7 @@ use Rattle.syntax.specs.declared.Unary.the-variants.{Not, Plus, Minus}
 
 -- ---- literals
 
--- the digits of n, of which there are at most f + 1
+-- the digits of n, of which there are at most f + 1: for 'Numbers without idle leading zeros'
 unfoldable pub digits : ℕ → ℕ → List ℕ
 digits zero n = (code "0" + n) ∷ []
 digits (suc f) n = pick (ltb n 10) (λ _. (code "0" + n) ∷ []) (λ _. digits f (n / 10) ++ (code "0" + n % 10) ∷ [])
@@ -24,7 +24,7 @@ digits (suc f) n = pick (ltb n 10) (λ _. (code "0" + n) ∷ []) (λ _. digits f
 abbrev pub decimal : ℕ → List ℕ
 decimal n = digits n n
 
--- the last k digits of n
+-- the last k digits of n: for 'one digit kept before the point, all digits after it'
 unfoldable pub lastDigits : ℕ → ℕ → List ℕ
 lastDigits zero n = []
 lastDigits (suc k) n = lastDigits k (n / 10) ++ (code "0" + n % 10) ∷ []
@@ -33,7 +33,7 @@ lastDigits (suc k) n = lastDigits k (n / 10) ++ (code "0" + n % 10) ∷ []
 unfoldable pub escaped : ℕ → List ℕ
 escaped b = cond (eqb b (code "\"")) (bytes "\\\"") (cond (eqb b (code "\\")) (bytes "\\\\") (cond (eqb b (code "\n")) (bytes "\\n") (cond (eqb b (code "\t")) (bytes "\\t") (b ∷ []))))
 
--- the bytes of a string as they are written
+-- the bytes of a string as they are written: 'escapes `\"` `\\` `\n` `\t`'
 unfoldable pub escapedAll : List ℕ → List ℕ
 escapedAll [] = []
 escapedAll (b ∷ l) = escaped b ++ escapedAll l
@@ -74,7 +74,8 @@ unaryText Not = bytes "!"
 unaryText Plus = bytes "+"
 unaryText Minus = bytes "-"
 
--- how an expression binds, by the table of `bindsOf`
+-- how an expression binds, by the table of `bindsOf`: 'Binding, loosest first: `?:`; .. unary `! + -`; then literals, references
+-- and parentheses.'
 unfoldable pub binds : Expr → ℕ
 binds (literal l) = 8
 binds (reference s w) = 8
@@ -122,7 +123,7 @@ printedAd a = code "[" ∷ (definitionsText a ++ code "]" ∷ [])
 
 -- ---- levels
 
--- one level more where `wrap` writes parentheses
+-- one level more where `wrap` writes parentheses: 'The inside of parentheses .. one level deeper'
 abbrev pub wrapLevel : ℕ → ℕ → ℕ → ℕ
 wrapLevel k b n = cond (ltb b k) (n + 1) n
 
@@ -134,7 +135,7 @@ levelOf (unary u a) = wrapLevel 7 (binds a) (levelOf a) + 1
 levelOf (binary j a b) = max (wrapLevel (bindsOf j) (binds a) (levelOf a)) (wrapLevel (bindsOf j + 1) (binds b) (levelOf b))
 levelOf (conditional a b c) = max (wrapLevel 1 (binds a) (levelOf a)) (max (levelOf b) (levelOf c) + 1)
 
--- the highest level of a printed ad
+-- the highest level of a printed ad: 'levels of its printed text'
 unfoldable pub adLevel : Ad → ℕ
 adLevel [] = 0
 adLevel (d ∷ ds) = max (levelOf (d .expression)) (adLevel ds)

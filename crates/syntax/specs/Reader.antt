@@ -17,19 +17,21 @@ use Rattle.syntax.specs.declared.Unary.the-variants.{Not, Plus, Minus}
 use Rattle.syntax.specs.declared.Symbol.{Symbol}
 use Rattle.syntax.specs.declared.Symbol.the-variants.{Exclamation, Question, Colon, OpenParenthesis, CloseParenthesis, OpenBracket, CloseBracket, Semicolon, Assign, Point, Other, Parent}
 
--- What reading an expression gives: the expression and the tokens behind it, or a refusal's number and place.
+-- What reading an expression gives: the expression and the tokens behind it, or a refusal's number and place: 'A refusal carries
+-- its number and a place'.
 pub data Parsed : Type 0 where
   ok : Expr → Tokens → Parsed
   refused : ℕ → ℕ → Parsed
 
--- What reading an ad gives.
+-- What reading an ad gives: the ad, or a refusal: 'A refusal carries its number and a place'.
 pub data Answer : Type 0 where
   accepted : Ad → Answer
   denied : ℕ → ℕ → Answer
 
 -- ---- the token in front
 
--- a number for each symbol and operator, so that two can be compared; 0 for a name or a literal
+-- a number for each symbol and operator, so that two can be compared; 0 for a name or a literal: for 'token does not fit the
+-- grammar'
 abbrev pub codeOf : Token → ℕ
 codeOf (word w) = 0
 codeOf (constant l) = 0
@@ -61,7 +63,7 @@ codeOf (symbol Point) = 25
 codeOf (symbol Other) = 26
 codeOf (symbol Parent) = 27
 
--- whether a token is the symbol or operator x
+-- whether a token is the symbol or operator x: for 'token does not fit the grammar'
 abbrev pub isToken : Token → Token → Bool
 isToken x t = eqb (codeOf t) (codeOf x)
 
@@ -73,13 +75,14 @@ module _ {A : Type 0} (refuse : ℕ → ℕ → A) where
   misfit (bad k p) = refuse k p
 
 module _ {A : Type 0} where
-  -- where the symbol or operator x is in front, go on behind it with its place; else otherwise
+  -- where the symbol or operator x is in front, go on behind it with its place; else otherwise: for 'token does not fit the
+  -- grammar'
   abbrev pub onToken : Token → Tokens → (ℕ → Tokens → A) → (Unit {0} → A) → A
   onToken x (next p t u) then otherwise = pick (isToken x t) (λ _. then p u) otherwise
   onToken x (end n) then otherwise = otherwise tt
   onToken x (bad k p) then otherwise = otherwise tt
 
-  -- where a Name is in front
+  -- where a Name is in front: for 'definitions `name = expression`' and 'Reference: `name` or `other.name`'
   abbrev pub onWord : Tokens → (ℕ → List ℕ → Tokens → A) → (Unit {0} → A) → A
   onWord (next p (word w) u) then otherwise = then p w u
   onWord (next p (constant l) u) then otherwise = otherwise tt
@@ -88,7 +91,7 @@ module _ {A : Type 0} where
   onWord (end n) then otherwise = otherwise tt
   onWord (bad k p) then otherwise = otherwise tt
 
--- where a literal is in front
+-- where a literal is in front: for 'then literals, references and parentheses'
 abbrev pub onLiteral : Tokens → (ℕ → Literal → Tokens → Parsed) → (Unit {0} → Parsed) → Parsed
 onLiteral (next p (word w) u) then otherwise = otherwise tt
 onLiteral (next p (constant l) u) then otherwise = then p l u
@@ -97,7 +100,7 @@ onLiteral (next p (symbol s) u) then otherwise = otherwise tt
 onLiteral (end n) then otherwise = otherwise tt
 onLiteral (bad k p) then otherwise = otherwise tt
 
--- where an operator of two operands that binds at b is in front
+-- where an operator of two operands that binds at b is in front: for 'Binding, loosest first: `?:`; `||`; `&&`; ..'
 abbrev pub onBinary : ℕ → Tokens → (Binary → ℕ → Tokens → Parsed) → (Unit {0} → Parsed) → Parsed
 onBinary b (next p (word w) u) then otherwise = otherwise tt
 onBinary b (next p (constant l) u) then otherwise = otherwise tt
@@ -106,7 +109,7 @@ onBinary b (next p (symbol s) u) then otherwise = otherwise tt
 onBinary b (end n) then otherwise = otherwise tt
 onBinary b (bad k p) then otherwise = otherwise tt
 
--- where an operator of one operand is in front
+-- where an operator of one operand is in front: for 'unary `! + -`'
 abbrev pub onUnary : Tokens → (Unary → ℕ → Tokens → Parsed) → (Unit {0} → Parsed) → Parsed
 onUnary u then otherwise =
     onToken (unaryToken Not) u (then Not)
@@ -115,12 +118,12 @@ onUnary u then otherwise =
 
 -- ---- expressions
 
--- go on behind an expression
+-- go on behind an expression; a refusal stays: 'the first token that breaks a rule decides'
 abbrev pub after : Parsed → (Expr → Tokens → Parsed) → Parsed
 after (ok e u) go = go e u
 after (refused k p) go = refused k p
 
--- the symbol x must stand here
+-- the symbol x must stand here; else 'token does not fit the grammar, or text ends early'
 abbrev pub want : Token → Tokens → (Tokens → Parsed) → Parsed
 want x u go = onToken x u (λ p v. go v) (λ _. misfit refused u)
 
@@ -128,7 +131,8 @@ want x u go = onToken x u (λ p v. go v) (λ _. misfit refused u)
 abbrev pub level : ℕ → ℕ → (Unit {0} → Parsed) → Parsed
 level d p go = pick (leb maxLevel d) (λ _. refused 6 p) go
 
--- What counts over the whole ad: how many nodes and definitions it may have, and which names are refused after others.
+-- What counts over the whole ad: how many nodes and definitions it may have, and which names are refused after others: for '256
+-- definitions; 1,024 nodes' and 'name defined twice'.
 pub record Limits : Type 0 where
   pub most-nodes : ℕ
   pub most-definitions : ℕ
@@ -151,7 +155,8 @@ module _ (L : Limits) where
     conditionalAt zero u d c = refused 0 0
     conditionalAt (suc f) u d c = after (binaryAt f u 1 d c) (λ e v. armsAt f v d (c + size e) e)
 
-    -- behind the expression e, whose nodes are counted: `?` and its arms, or nothing
+    -- behind the expression e, whose nodes are counted: `?` and its arms, or nothing: 'A conditional is an `||`-expression, `?`,
+    -- an expression, `:`, an expression.'
     pub armsAt : ℕ → Tokens → ℕ → ℕ → Expr → Parsed
     armsAt zero u d c e = refused 0 0
     armsAt (suc f) u d c e =
@@ -163,7 +168,7 @@ module _ (L : Limits) where
         ok (conditional e a b) y))))))
         (λ _. ok e u)
 
-    -- operands of operators that bind at b, which group to the left
+    -- operands of operators that bind at b, which group to the left: 'Binary operators group to the left.'
     pub binaryAt : ℕ → Tokens → ℕ → ℕ → ℕ → Parsed
     binaryAt zero u b d c = refused 0 0
     binaryAt (suc f) u b d c =
@@ -171,7 +176,7 @@ module _ (L : Limits) where
         (λ _. after (binaryAt f u (b + 1) d c) (λ e v. restAt f v b d (c + size e) e))
         (λ _. unaryAt f u d c)
 
-    -- behind the left operand e, whose nodes are counted
+    -- behind the left operand e, whose nodes are counted: 'Binary operators group to the left.'
     pub restAt : ℕ → Tokens → ℕ → ℕ → ℕ → Expr → Parsed
     restAt zero u b d c e = refused 0 0
     restAt (suc f) u b d c e =
@@ -206,28 +211,28 @@ module _ (L : Limits) where
 
 -- ---- ads
 
--- go on behind an expression of an ad
+-- go on behind an expression of an ad; a refusal stays: 'the first token that breaks a rule decides'
 abbrev pub afterA : Parsed → (Expr → Tokens → Answer) → Answer
 afterA (ok e u) go = go e u
 afterA (refused k p) go = denied k p
 
--- the symbol x must stand here
+-- the symbol x must stand here; else 'token does not fit the grammar, or text ends early'
 abbrev pub wantA : Token → Tokens → (Tokens → Answer) → Answer
 wantA x u go = onToken x u (λ p v. go v) (λ _. misfit denied u)
 
--- behind `]` the text ends
+-- behind `]` the text ends: '`[`, then definitions .., then `]`'; a further token 'does not fit the grammar'
 abbrev pub endA : Tokens → Ad → Answer
 endA (next p t u) a = denied 4 p
 endA (end n) a = accepted a
 endA (bad k p) a = denied k p
 
--- how many tokens there are
+-- how many tokens there are: for `enough`, as the 'readers call each other in a cycle'
 unfoldable pub count : Tokens → ℕ
 count (next p t u) = count u + 1
 count (end n) = 0
 count (bad k p) = 0
 
--- a depth of calls that no reader reaches
+-- a depth of calls that no reader reaches: it bounds how the 'readers call each other in a cycle'
 abbrev pub enough : Tokens → ℕ
 enough u = 16 * count u + 16
 
@@ -237,7 +242,8 @@ module _ (L : Limits) where
   admit w p a go = pick (L .taken w a) (λ _. denied 8 p) (λ _. pick (leb (L .most-definitions) (length a)) (λ _. denied 9 p) go)
 
   unfoldable mutual
-    -- `]`, or a definition, after the definitions a with c nodes
+    -- `]`, or a definition, after the definitions a with c nodes: 'definitions `name = expression` parted by `;`, one further `;`
+    -- allowed after the last, then `]`'
     pub definitionsAt : ℕ → Tokens → Ad → ℕ → Answer
     definitionsAt zero u a c = denied 0 0
     definitionsAt (suc f) u a c =
@@ -248,7 +254,7 @@ module _ (L : Limits) where
         behindAt f y (a ++ record { name = w; expression = e } ∷ []) (c + size e)))))
         (λ _. misfit denied u))
 
-    -- `;` or `]` behind a definition
+    -- `;` or `]` behind a definition: 'parted by `;`, one further `;` allowed after the last, then `]`'
     pub behindAt : ℕ → Tokens → Ad → ℕ → Answer
     behindAt zero u a c = denied 0 0
     behindAt (suc f) u a c =
@@ -256,7 +262,7 @@ module _ (L : Limits) where
         (λ _. onToken (symbol CloseBracket) u (λ p v. endA v a)
         (λ _. misfit denied u))
 
-  -- an ad, up to the end of the text
+  -- an ad, up to the end of the text: '`[`, then definitions `name = expression` parted by `;`, .., then `]`'
   unfoldable pub adAt : Tokens → Answer
   adAt u = wantA (symbol OpenBracket) u (λ v. definitionsAt (enough v) v [] 0)
 

@@ -14,14 +14,16 @@ use Rattle.syntax.specs.declared.Binary.the-variants.{Or, And, Equal, No
 use Rattle.syntax.specs.declared.Symbol.{Symbol}
 use Rattle.syntax.specs.declared.Symbol.the-variants.{Exclamation, Question, Colon, OpenParenthesis, CloseParenthesis, OpenBracket, CloseBracket, Semicolon, Assign, Point, Other, Parent}
 
--- A token: a Name, a literal, an operator of two operands (`+` and `-` also stand for those of one), or another symbol.
+-- A token: a Name, a literal, an operator of two operands (`+` and `-` also stand for those of one), or another symbol: 'tokens
+-- likewise carry data'.
 pub data Token : Type 0 where
   word : List ℕ → Token
   constant : Literal → Token
   operator : Binary → Token
   symbol : Symbol → Token
 
--- The tokens of a text, each behind the place of its first byte.
+-- The tokens of a text, each behind the place of its first byte: 'the first token that breaks a rule decides, its first byte is
+-- the place'.
 pub data Tokens : Type 0 where
   next : ℕ → Token → Tokens → Tokens
   -- the text ends, at its length
@@ -29,25 +31,27 @@ pub data Tokens : Type 0 where
   -- a token that is refused by itself: refusal 3, 5 or 7, and its place
   bad : ℕ → ℕ → Tokens
 
--- The token in front of some bytes, and how many bytes it has; or the refusal that it carries.
+-- The token in front of some bytes, and how many bytes it has; or the refusal that it carries: for 'Longest token wins.' and 'no
+-- token starts here'.
 pub data Front : Type 0 where
   good : Token → ℕ → Front
   wrong : ℕ → Front
 
 module _ {A : Type 0} where
-  -- One of two, of which only the one picked is computed.
+  -- One of two, of which only the one picked is computed: for 'At one token the order is 3, 7, 5, 4, 6, 8, 9', where one test
+  -- follows another.
   abbrev pub pick : Bool → (Unit {0} → A) → (Unit {0} → A) → A
   pick true a b = a tt
   pick false a b = b tt
 
--- the longest front part of some bytes that are all of a class
+-- the longest front part of some bytes that are all of a class, as 'letters, digits, `_`': for 'Longest token wins.'
 unfoldable pub frontOf : (ℕ → Bool) → List ℕ → List ℕ
 frontOf class [] = []
 frontOf class (b ∷ l) = pick (class b) (λ _. b ∷ frontOf class l) (λ _. [])
 
 -- ---- names and reserved words
 
--- how a token is spelled
+-- how a token is spelled: for 'Reserved, in any case: ..' and 'further spellings of `is` and `isnt`'
 pub record Spelling : Type 0 where
   pub text : List ℕ
   pub token : Token
@@ -65,7 +69,7 @@ reserved =
     ∷ record { text = bytes "other"; token = symbol Other }
     ∷ []
 
--- a reserved word's token, or the Name as written
+-- a reserved word's token, or the Name as written: 'Reserved, in any case: ..'; 'Names .. are kept as written'
 unfoldable pub wordIn : List Spelling → List ℕ → Token
 wordIn [] w = word w
 wordIn (s ∷ ss) w = pick (sameName (s .text) w) (λ _. s .token) (λ _. wordIn ss w)
@@ -78,7 +82,7 @@ nameFront l =
 
 -- ---- numbers
 
--- digits read in base ten, after the number v
+-- digits read in base ten, after the number v: for 'digits, read in base ten whatever the first digit'
 unfoldable pub valueFrom : ℕ → List ℕ → ℕ
 valueFrom v [] = v
 valueFrom v (b ∷ l) = valueFrom (v * 10 + (b - code "0")) l
@@ -87,7 +91,7 @@ valueFrom v (b ∷ l) = valueFrom (v * 10 + (b - code "0")) l
 abbrev pub valueOf : List ℕ → ℕ
 valueOf ds = valueFrom 0 ds
 
--- the digits after a point in front, if there is one
+-- the digits after a point in front, if there is one: for 'Real: digits, a point, digits'
 unfoldable pub fractionOf : List ℕ → List ℕ
 fractionOf [] = []
 fractionOf (b ∷ l) = pick (eqb b (code ".")) (λ _. frontOf isDigit l) (λ _. [])
@@ -112,12 +116,13 @@ numberFront l =
 
 -- ---- strings
 
--- a string behind its opening quote: its bytes after escapes, and how many bytes of text with the closing quote; or broken
+-- a string behind its opening quote: its bytes after escapes, and how many bytes of text with the closing quote; or broken: for
+-- 'String: `"`, bytes .., `"`' and 'bad byte or escape in a string, string not closed'
 pub data Body : Type 0 where
   closed : List ℕ → ℕ → Body
   broken : Body
 
--- one byte more in front, from n bytes of text
+-- one byte more in front, from n bytes of text: for 'string 1,024 bytes after escapes'
 abbrev pub grown : ℕ → ℕ → Body → Body
 grown b n (closed xs k) = closed (b ∷ xs) (n + k)
 grown b n broken = broken
@@ -135,7 +140,7 @@ unfoldable mutual
       (λ _. pick (eqb b (code "\\")) (λ _. escapedOf l)
       (λ _. pick (between 0x20 0x7E b) (λ _. grown b 1 (bodyOf l)) (λ _. broken)))
 
-  -- behind a backslash
+  -- behind a backslash: 'escapes `\"` `\\` `\n` `\t`', all else a 'bad byte or escape in a string'
   pub escapedOf : List ℕ → Body
   escapedOf [] = broken
   escapedOf (b ∷ l) = pick (eqb (escapeOf b) 0) (λ _. broken) (λ _. grown (escapeOf b) 2 (bodyOf l))
@@ -177,7 +182,7 @@ spellings =
     ∷ record { text = bytes "."; token = symbol Point }
     ∷ []
 
--- whether some bytes begin with others
+-- whether some bytes begin with others: for 'Longest token wins.' and 'no token starts here'
 unfoldable pub begins : List ℕ → List ℕ → Bool
 begins [] l = true
 begins (x ∷ xs) [] = false
@@ -190,7 +195,8 @@ symbolIn (s ∷ ss) l = pick (begins (s .text) l) (λ _. good (s .token) (length
 
 -- ---- the tokens of a text
 
--- the token in front of the bytes b ∷ l, of which b is no blank
+-- the token in front of the bytes b ∷ l, of which b is no blank, by how each begins: 'Name: a letter or `_`', 'Integer: digits',
+-- 'String: `"`', else a symbol or 'no token starts here'
 unfoldable pub frontToken : ℕ → List ℕ → Front
 frontToken b l =
     pick (startsName b) (λ _. nameFront (b ∷ l))
@@ -198,7 +204,8 @@ frontToken b l =
     (λ _. pick (eqb b (code "\"")) (λ _. stringOf (bodyOf l))
     (λ _. symbolIn spellings (b ∷ l))))
 
--- a good token goes on, and a bad one ends the tokens at its place p
+-- a good token goes on, and a bad one ends the tokens at its place p: 'the first token that breaks a rule decides, its first byte
+-- is the place'
 abbrev pub onFront : Front → ℕ → (Token → ℕ → Tokens) → Tokens
 onFront (good t n) p go = go t n
 onFront (wrong k) p go = bad k p
@@ -213,6 +220,6 @@ tokensFrom zero p (b ∷ l) =
     (λ _. tokensFrom zero (p + 1) l)
     (λ _. onFront (frontToken b l) p (λ t n. next p t (tokensFrom (n - 1) (p + 1) l)))
 
--- the tokens of a text
+-- the tokens of a text: 'tokens left to right'
 abbrev pub tokens : List ℕ → Tokens
 tokens s = tokensFrom 0 0 s

@@ -7,12 +7,13 @@ use mathlib.Core.Bool.{Bool, true, false, cond, _&&_, _||_}
 use mathlib.Core.List.{List, [], _∷_}
 use lib.Dec.{leb, eqb}
 
--- The bytes of a quoted ASCII text: it lets the definitions and examples of the other crates be read as text.
+-- The bytes of a quoted ASCII text: it lets the definitions and examples of the other crates be read as text, as the words of
+-- 'Reserved, in any case: true, false, ..' are.
 unfoldable pub bytes : String → List ℕ
 bytes S.[] = []
 bytes (S._∷_ c s) = code c ∷ bytes s
 
--- lo ≤ b ≤ hi
+-- lo ≤ b ≤ hi: for 'bytes 0x20 to 0x7E', 'a letter' and 'digits'
 abbrev pub between : ℕ → ℕ → ℕ → Bool
 between lo hi b = leb lo b && leb b hi
 
@@ -36,6 +37,6 @@ startsName b = isLetter b || eqb b (code "_")
 unfoldable pub continuesName : ℕ → Bool
 continuesName b = startsName b || isDigit b
 
--- ASCII lower case
+-- ASCII lower case: for 'Names match without regard to ASCII case' and 'Strings compare by bytes after ASCII lower case'
 unfoldable pub lowerCase : ℕ → ℕ
 lowerCase b = cond (between (code "A") (code "Z") b) (b + 32) b

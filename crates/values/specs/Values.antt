@@ -23,7 +23,8 @@ kinds u e b i r s (String side offset length) = s side offset length
 abbrev pub bytesAt : List ℕ → List ℕ → Bool → ℕ → ℕ → List ℕ
 bytesAt first second side offset length = take length (drop offset (cond side second first))
 
--- the numbers of a value are those of its types, as those of a value in a program are
+-- the numbers of a value are those of its types, as those of a value in a program are: for 'wrap at 32 bits', 'a Real carries a
+-- 64-bit float' and 'a part of that ad's lent memory'
 abbrev pub Sized : Value → Type 0
 Sized Undefined = Unit {0}
 Sized Error = Unit {0}
@@ -32,6 +33,6 @@ Sized (Integer x) = x < 2 ^ width
 Sized (Real x) = T (fits binary64 x)
 Sized (String side offset length) = (offset < 2 ^ 16) × (length < 2 ^ 16)
 
--- the same value where the two ads are exchanged
+-- the same value where the two ads are exchanged: for 'String values are literals of either ad'
 abbrev pub turned : Value → Value
 turned = kinds Undefined Error (λ b. Boolean b) (λ x. Integer x) (λ x. Real x) (λ side offset length. String (not side) offset length)
