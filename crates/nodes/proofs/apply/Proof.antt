@@ -1,78 +1,27 @@
+use denote.Ref.{now}
+use mathlib.Core.Path.{sym, ap, _∙_}
+use Rattle.nodes.specs.declared.Node.{Node}
+use Rattle.nodes.specs.Nodes.{applied}
 use borrow.Author.Needs.{needs}
 use Rattle.nodes.proofs.apply.Statement.{statement}
 use Rattle.nodes.proofs.apply.Tie as tie
-use Rattle.nodes.proofs.apply.Reads as reads
-use Rattle.nodes.proofs.apply.Lts as lts
-use Rattle.logic.proofs.conditional.Reads as conditional-reads
-use Rattle.operators.proofs.binary.Reads as binary-reads
-use Rattle.operators.proofs.unary.Reads as unary-reads
 
--- src/lib.rt:65:24
-enum-known-node : tie.Need-enum-known-node
-enum-known-node c = search needs
-
--- src/lib.rt:66:28
-enum-told : tie.Need-enum-told
-enum-told c = search needs
-
--- src/lib.rt:67:21
-enum-known-node-2 : tie.Need-enum-known-node-2
-enum-known-node-2 c = search needs
-
--- src/lib.rt:67:28
-unary-requires : tie.Need-unary-requires
-unary-requires c κs = search needs
-
--- src/lib.rt:68:21
-enum-known-node-3 : tie.Need-enum-known-node-3
-enum-known-node-3 c = search needs
-
--- src/lib.rt:68:28
-binary-requires : tie.Need-binary-requires
-binary-requires c κs = search needs
-
--- src/lib.rt:69:30
-enum-told-2 : tie.Need-enum-told-2
-enum-told-2 c = search needs
-
--- src/lib.rt:69:30
-conditional-requires : tie.Need-conditional-requires
-conditional-requires c κs = search needs
-
--- src/lib.rt:61:1
 returns : tie.Need-returns
-returns c = ?
+returns c = sym (ap (λ (n : Node). applied (now (c .before .before .before .before .before .args .first)) (now (c .before .before .before .before .before .args .second)) n (c .before .before .before .before .before .args .a) (c .before .before .before .before .before .args .b) (c .before .before .before .before .before .args .c)) (c .before .node .given .1))
 
--- src/lib.rt:61:1
 returns-2 : tie.Need-returns-2
-returns-2 c = ?
+returns-2 c = sym (ap (λ (n : Node). applied (now (c .before .before .before .before .args .first)) (now (c .before .before .before .before .args .second)) n (c .before .before .before .before .args .a) (c .before .before .before .before .args .b) (c .before .before .before .before .args .c)) (c .enum-told .given .1))
 
--- src/lib.rt:61:1
 returns-3 : tie.Need-returns-3
-returns-3 c = ?
+returns-3 c = c .unary .ensures ∙ sym (ap (λ (n : Node). applied (now (c .before .before .before .before .before .before .args .first)) (now (c .before .before .before .before .before .before .args .second)) n (c .before .before .before .before .before .before .args .a) (c .before .before .before .before .before .before .args .b) (c .before .before .before .before .before .before .args .c)) (c .before .before .node2 .given .1))
 
--- src/lib.rt:61:1
 returns-4 : tie.Need-returns-4
-returns-4 c = ?
+returns-4 c = c .binary .ensures ∙ sym (ap (λ (n : Node). applied (now (c .before .before .before .before .before .before .args .first)) (now (c .before .before .before .before .before .before .args .second)) n (c .before .before .before .before .before .before .args .a) (c .before .before .before .before .before .before .args .b) (c .before .before .before .before .before .before .args .c)) (c .before .before .node3 .given .1))
 
--- src/lib.rt:61:1
 returns-5 : tie.Need-returns-5
-returns-5 c = ?
+returns-5 c = c .conditional .ensures ∙ sym (ap (λ (n : Node). applied (now (c .before .before .before .before .before .args .first)) (now (c .before .before .before .before .before .args .second)) n (c .before .before .before .before .before .args .a) (c .before .before .before .before .before .args .b) (c .before .before .before .before .before .args .c)) (c .before .enum-told2 .given .1))
 
 pub apply-spec : {M : Type 1} → statement M
-apply-spec =
-    tie.close
-    (tie.spec
-    enum-known-node
-    enum-told
-    enum-known-node-2
-    unary-requires
-    enum-known-node-3
-    binary-requires
-    enum-told-2
-    conditional-requires
-    returns
-    returns-2
-    returns-3
-    returns-4
-    returns-5)
+apply-spec = tie.close (tie.spec
+    (λ c. search needs) (λ c. search needs) (λ c. search needs) (λ c κs. search needs) (λ c. search needs) (λ c κs. search needs) (λ c. search needs)
+    (λ c κs. search needs) returns returns-2 returns-3 returns-4 returns-5)

@@ -1,61 +1,29 @@
+use mathlib.Core.Path.{ap}
+use lib.Ieee.{Float}
+use borrow.Author.Tests.{ne-eqb}
+use Rattle.values.specs.declared.Value.the-variants.{Real}
 use borrow.Author.Needs.{needs}
 use Rattle.nodes.proofs.constant_of.Statement.{statement}
 use Rattle.nodes.proofs.constant_of.Tie as tie
-use Rattle.nodes.proofs.constant_of.Reads as reads
-use Rattle.nodes.proofs.constant_of.Lts as lts
-use Rattle.reals.proofs.literal.Reads as literal-reads
 
--- src/lib.rt:23:29
-cast-t8 : tie.Need-cast-t8
-cast-t8 c = search needs
-
--- src/lib.rt:24:26
-literal-requires : tie.Need-literal-requires
-literal-requires c κs = search needs
-
--- src/lib.rt:25:36
-cast-t11 : tie.Need-cast-t11
-cast-t11 c = search needs
-
--- src/lib.rt:25:56
-cast-t13 : tie.Need-cast-t13
-cast-t13 c = search needs
-
--- src/lib.rt:17:1
 returns : tie.Need-returns
-returns c = ?
+returns c = rw (c .match .keys1)
 
--- src/lib.rt:17:1
 returns-2 : tie.Need-returns-2
-returns-2 c = ?
+returns-2 c = rw (c .match .keys2)
 
--- src/lib.rt:17:1
 returns-3 : tie.Need-returns-3
-returns-3 c = ?
+returns-3 c = rw (c .match .keys3)
 
--- src/lib.rt:17:1
 returns-4 : tie.Need-returns-4
-returns-4 c = ?
+returns-4 c = rw (c .before .match .keys4) (ap (λ (x : Float). Real x) (c .literal .ensures))
 
--- src/lib.rt:17:1
 returns-5 : tie.Need-returns-5
-returns-5 c = ?
+returns-5 c = rw (c .match .keys5)
 
--- src/lib.rt:17:1
 returns-6 : tie.Need-returns-6
-returns-6 c = ?
+returns-6 c = let n = c .match .rest in let k = c .before .args .kind in rw (ne-eqb k 2 (n .0 .0 .0 .0 .1), ne-eqb k 3 (n .0 .0 .0 .1), ne-eqb k 4 (n .0 .0 .1), ne-eqb k 5 (n .0 .1), ne-eqb k 6 (n .1))
 
 pub constant-of-spec : {M : Type 1} → statement M
-constant-of-spec =
-    tie.close
-    (tie.spec
-    cast-t8
-    literal-requires
-    cast-t11
-    cast-t13
-    returns
-    returns-2
-    returns-3
-    returns-4
-    returns-5
-    returns-6)
+constant-of-spec = tie.close (tie.spec
+    (λ c. search needs) (λ c κs. search needs) (λ c. search needs) (λ c. search needs) returns returns-2 returns-3 returns-4 returns-5 returns-6)

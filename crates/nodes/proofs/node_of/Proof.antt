@@ -1,126 +1,78 @@
+use mathlib.Core.Path.{ap}
+use borrow.Author.Tests.{ne-eqb}
+use Rattle.values.specs.declared.Value.{Value}
+use Rattle.nodes.specs.declared.Node.the-variants.{Constant}
 use borrow.Author.Needs.{needs}
 use Rattle.nodes.proofs.node_of.Statement.{statement}
 use Rattle.nodes.proofs.node_of.Tie as tie
-use Rattle.nodes.proofs.node_of.Reads as reads
-use Rattle.nodes.proofs.node_of.Lts as lts
-use Rattle.nodes.proofs.constant_of.Reads as constant-of-reads
 
--- src/lib.rt:56:29
-constant-of-requires : tie.Need-constant-of-requires
-constant-of-requires c κs = search needs
-
--- src/lib.rt:31:1
 returns : tie.Need-returns
-returns c = ?
+returns c = rw (c .match .keys1)
 
--- src/lib.rt:31:1
 returns-2 : tie.Need-returns-2
-returns-2 c = ?
+returns-2 c = rw (c .match .keys2)
 
--- src/lib.rt:31:1
 returns-3 : tie.Need-returns-3
-returns-3 c = ?
+returns-3 c = rw (c .match .keys3)
 
--- src/lib.rt:31:1
 returns-4 : tie.Need-returns-4
-returns-4 c = ?
+returns-4 c = rw (c .match .keys4)
 
--- src/lib.rt:31:1
 returns-5 : tie.Need-returns-5
-returns-5 c = ?
+returns-5 c = rw (c .match .keys5)
 
--- src/lib.rt:31:1
 returns-6 : tie.Need-returns-6
-returns-6 c = ?
+returns-6 c = rw (c .match .keys6)
 
--- src/lib.rt:31:1
 returns-7 : tie.Need-returns-7
-returns-7 c = ?
+returns-7 c = rw (c .match .keys7)
 
--- src/lib.rt:31:1
 returns-8 : tie.Need-returns-8
-returns-8 c = ?
+returns-8 c = rw (c .match .keys8)
 
--- src/lib.rt:31:1
 returns-9 : tie.Need-returns-9
-returns-9 c = ?
+returns-9 c = rw (c .match .keys9)
 
--- src/lib.rt:31:1
 returns-10 : tie.Need-returns-10
-returns-10 c = ?
+returns-10 c = rw (c .match .keys10)
 
--- src/lib.rt:31:1
 returns-11 : tie.Need-returns-11
-returns-11 c = ?
+returns-11 c = rw (c .match .keys11)
 
--- src/lib.rt:31:1
 returns-12 : tie.Need-returns-12
-returns-12 c = ?
+returns-12 c = rw (c .match .keys12)
 
--- src/lib.rt:31:1
 returns-13 : tie.Need-returns-13
-returns-13 c = ?
+returns-13 c = rw (c .match .keys13)
 
--- src/lib.rt:31:1
 returns-14 : tie.Need-returns-14
-returns-14 c = ?
+returns-14 c = rw (c .match .keys14)
 
--- src/lib.rt:31:1
 returns-15 : tie.Need-returns-15
-returns-15 c = ?
+returns-15 c = rw (c .match .keys15)
 
--- src/lib.rt:31:1
 returns-16 : tie.Need-returns-16
-returns-16 c = ?
+returns-16 c = rw (c .match .keys16)
 
--- src/lib.rt:31:1
 returns-17 : tie.Need-returns-17
-returns-17 c = ?
+returns-17 c = rw (c .match .keys17)
 
--- src/lib.rt:31:1
 returns-18 : tie.Need-returns-18
-returns-18 c = ?
+returns-18 c = rw (c .match .keys18)
 
--- src/lib.rt:31:1
 returns-19 : tie.Need-returns-19
-returns-19 c = ?
+returns-19 c = rw (c .match .keys19)
 
--- src/lib.rt:31:1
 returns-20 : tie.Need-returns-20
-returns-20 c = ?
+returns-20 c = rw (c .match .keys20)
 
--- src/lib.rt:31:1
 returns-21 : tie.Need-returns-21
-returns-21 c = ?
+returns-21 c = rw (c .match .keys21)
 
--- src/lib.rt:31:1
 returns-22 : tie.Need-returns-22
-returns-22 c = ?
+returns-22 c = let n = c .before .match .rest in let k = c .before .before .args .kind in rw (ne-eqb k 7 (n .0 .0 .0 .0 .0 .0 .0 .0 .0 .0 .0 .0 .0 .0 .0 .0 .0 .0 .0 .0 .1), ne-eqb k 8 (n .0 .0 .0 .0 .0 .0 .0 .0 .0 .0 .0 .0 .0 .0 .0 .0 .0 .0 .0 .1), ne-eqb k 9 (n .0 .0 .0 .0 .0 .0 .0 .0 .0 .0 .0 .0 .0 .0 .0 .0 .0 .0 .1), ne-eqb k 10 (n .0 .0 .0 .0 .0 .0 .0 .0 .0 .0 .0 .0 .0 .0 .0 .0 .0 .1), ne-eqb k 11 (n .0 .0 .0 .0 .0 .0 .0 .0 .0 .0 .0 .0 .0 .0 .0 .0 .1), ne-eqb k 12 (n .0 .0 .0 .0 .0 .0 .0 .0 .0 .0 .0 .0 .0 .0 .0 .1), ne-eqb k 13 (n .0 .0 .0 .0 .0 .0 .0 .0 .0 .0 .0 .0 .0 .0 .1), ne-eqb k 14 (n .0 .0 .0 .0 .0 .0 .0 .0 .0 .0 .0 .0 .0 .1), ne-eqb k 15 (n .0 .0 .0 .0 .0 .0 .0 .0 .0 .0 .0 .0 .1), ne-eqb k 16 (n .0 .0 .0 .0 .0 .0 .0 .0 .0 .0 .0 .1), ne-eqb k 17 (n .0 .0 .0 .0 .0 .0 .0 .0 .0 .0 .1), ne-eqb k 18 (n .0 .0 .0 .0 .0 .0 .0 .0 .0 .1), ne-eqb k 19 (n .0 .0 .0 .0 .0 .0 .0 .0 .1), ne-eqb k 20 (n .0 .0 .0 .0 .0 .0 .0 .1), ne-eqb k 21 (n .0 .0 .0 .0 .0 .0 .1), ne-eqb k 22 (n .0 .0 .0 .0 .0 .1), ne-eqb k 23 (n .0 .0 .0 .0 .1), ne-eqb k 24 (n .0 .0 .0 .1), ne-eqb k 25 (n .0 .0 .1), ne-eqb k 26 (n .0 .1), ne-eqb k 27 (n .1)) (ap (λ (v : Value). Constant v) (c .constant-of .ensures))
 
 pub node-of-spec : {M : Type 1} → statement M
-node-of-spec =
-    tie.close
-    (tie.spec
-    constant-of-requires
-    returns
-    returns-2
-    returns-3
-    returns-4
-    returns-5
-    returns-6
-    returns-7
-    returns-8
-    returns-9
-    returns-10
-    returns-11
-    returns-12
-    returns-13
-    returns-14
-    returns-15
-    returns-16
-    returns-17
-    returns-18
-    returns-19
-    returns-20
-    returns-21
-    returns-22)
+node-of-spec = tie.close (tie.spec
+    (λ c κs. search needs) returns returns-2 returns-3 returns-4 returns-5 returns-6 returns-7 returns-8 returns-9 returns-10 returns-11 returns-12
+    returns-13 returns-14 returns-15 returns-16 returns-17 returns-18 returns-19 returns-20 returns-21 returns-22)
