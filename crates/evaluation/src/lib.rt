@@ -92,3 +92,44 @@ pub fn step(
     let value = nodes::apply(b, c, node, p, q, r);
     slots::store(table, x, Slot::Held(value));
 }
+
+// The node of an entry of the list, which is one more than it.
+fn entry(list: &[u64], i: usize) -> usize
+    requires { ⌜ (i < length (now list)) × (1 ≤ getD (now list) i 0) ⌝ }
+    ensures { λ r. ⌜ r ≡ getD (now (list .entry)) i 0 - 1 ⌝ }
+{
+    (list[i] - 1) as usize
+}
+
+// THE RUN: from entry k on, one step for each entry until the budget or the list of len entries ends; it counts the steps.
+pub fn run(
+    v: &[u64],
+    b: &[u8],
+    w: &[u64],
+    c: &[u8],
+    target: &[usize],
+    flag: &[usize],
+    list: &[u64],
+    len: usize,
+    k: usize,
+    budget: u16,
+    table: &mut [u64],
+) -> usize
+    requires { ⌜ AtRun (now v) (now w) (now target) (now flag) (now list) (now table) len ⌝ }
+    ensures { λ r. ⌜ RunTo (needed (pairGraph (now (v .entry)) (now (b .entry)) (now (w .entry)) (now (c .entry))) (now (target .entry)) (now (flag .entry))) (ruleAt (now (v .entry)) (now (b .entry)) (now (w .entry)) (now (c .entry))) (entries len (now (list .entry))) k budget (now (table .entry)) (now (table .exit)) r ⌝ }
+{
+    if len <= k {
+        return 0;
+    }
+    let most = budget as usize;
+    let mut n: usize = 0;
+    while n < most {
+        if len - k <= n {
+            return n;
+        }
+        let x = entry(list, k + n);
+        step(v, b, w, c, target, flag, table, x);
+        n += 1;
+    }
+    n
+}
