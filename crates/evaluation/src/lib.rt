@@ -16,7 +16,7 @@ use values::Value;
 const NODES: usize = 1024;
 
 // The value in a slot; a blank one reads as Undefined.
-fn value_in(table: &[u64], y: usize) -> Value
+pub fn value_in(table: &[u64], y: usize) -> Value
     ensures { λ r. ⌜ r ≡ seen (slotAt (now (table .entry)) y) ⌝ }
 {
     let s = slots::load(table, y);

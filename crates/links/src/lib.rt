@@ -10,7 +10,7 @@ ghost use lib.ListN.{length, getD, take};
 ghost use lib.Dec.{eqb, ltb};
 ghost use Rattle.graph.specs.Transition.{flags, start, led, goes, marked};
 ghost use Rattle.ad.specs.Stored.{kindAt, operandAt, nodeCount, isReference, find};
-ghost use Rattle.links.specs.Pair.{numbered, linked, linksFrom, both, pairGraph, Formed, Measured, Stands};
+ghost use Rattle.links.specs.Pair.{numbered, linked, linksFrom, both, rootsOf, pairGraph, Formed, Measured, Stands};
 ghost use Rattle.graph.specs.Members.{numbers, raised};
 
 const NODES: usize = 1024;
@@ -222,6 +222,14 @@ pub fn found_at(v: &[u64], b: &[u8], d: usize, w: &[u64], c: &[u8], e: usize, x:
         return found_from(v, b, d, w, c, e, x, false);
     }
     found_from(w, c, e, v, b, d, x - NODES, true)
+}
+
+// Where a name's definition is in an ad of d definitions, `second` or the first: one more than its root's number, and 0 for none.
+pub fn root_named(words: &[u64], bytes: &[u8], d: usize, name: &[u8], second: bool) -> usize
+    requires { ⌜ Measured (now words) (nodeCount (now words)) d ⌝ }
+    ensures { λ r. ⌜ r ≡ marked (rootsOf second (now (words .entry)) (now (bytes .entry)) (now (name .entry))) ⌝ }
+{
+    stored::find_name(words, bytes, d, name, second)
 }
 
 // The root of a name's definition, if there is one, becomes the n-th of the roots.

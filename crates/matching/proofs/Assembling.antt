@@ -1,0 +1,227 @@
+-- A traversal and a run from its list make a match. Assumes nothing.
+use Prim.Native.Nat.{ℕ, zero, suc, _+_, _-_, _*_, _≤_, _<_, min}
+use native.Mathlib.Omega.{arith}
+use mathlib.Core.Path.{_≡_, refl, sym, ap, _∙_, subst, fun-ext}
+use mathlib.Core.Logic.{_↔_, _⊎_, inl, inr}
+use mathlib.Core.Bool.{Bool, true, false, cond, _&&_}
+use mathlib.Core.List.{List, [], _∷_, _++_, map}
+use lib.ListN.{length, getD, take, drop, replicate, length-append, length-map, length-replicate, List·getD-append}
+use lib.Seq.{take-all, take-append-seam}
+use Rattle.graph.specs.Members.{_∈_, here, there, Each, numbers, raised}
+use Rattle.graph.specs.Laws.Members.{mem-nil, mem-left, mem-right, at-mem}
+use Rattle.graph.specs.Graph.{Graph, Sound, Node, Circular, Flags, needs, Entered}
+use Rattle.graph.specs.Transition.{State, searches, transitions, first, Ended}
+use Rattle.graph.specs.declared.Place.{Place}
+use Rattle.graph.specs.declared.Place.the-variants.{Between}
+use Rattle.graph.specs.Laws.Traversal.{needs-links, needs-acyclic}
+use Rattle.links.specs.Pair.{pairGraph, rootsOf, requirements, rank, Formed, Stands}
+use Rattle.links.specs.Laws.Soundness.{pair-sound}
+use Rattle.marks.specs.Memory.{view, marksRoom}
+use Rattle.dependency.specs.Traversal.{Ready, Traversed}
+use Rattle.dependency.specs.Laws.Use.{clear-zeros, needs-led}
+use Rattle.values.specs.declared.Value.{Value}
+use Rattle.slots.specs.declared.Slot.{Slot}
+use Rattle.slots.specs.declared.Slot.the-variants.{Blank, Held}
+use Rattle.slots.specs.Packed.{slotAt}
+use Rattle.nodes.specs.Nodes.{valueIn}
+use Rattle.valuation.specs.Gives.{Gives}
+use Rattle.valuation.specs.Run.{runFrom, Ran}
+use Rattle.valuation.specs.Laws.Values.{entered-in}
+use Rattle.valuation.specs.Laws.Transfer.{entered-part}
+use Rattle.valuation.specs.Laws.Runs.{run-ran}
+use Rattle.evaluation.specs.Evaluation.{ruleAt, seen, needed, entries, stepsWords, RunTo, AtRun}
+use Rattle.matching.specs.Matching.{isTrue, rankOf, Worth, Concluded, Counted, Match}
+use Rattle.matching.specs.Laws.Concluding.{worth-of}
+use Rattle.matching.specs.declared.Outcome.{Outcome}
+use Rattle.matching.specs.declared.Outcome.the-variants.{Finished, Unfinished}
+
+-- the answer of a finished match, by its four values
+pub finished-by : (steps count : ℕ) {p q r x y : Bool} {i j m n : ℕ} → r ≡ (p && q) → p ≡ x → q ≡ y → i ≡ m → j ≡ n → Finished r i j steps count ≡ Finished (x && y) m n steps count
+finished-by steps count {p} {q} {r} {x} {y} {i} {j} {m} {n} e a b d f =
+    ap (λ (z : Bool). Finished z i j steps count) (e ∙ ap (λ (z : Bool). z && q) a ∙ ap (λ (z : Bool). x && z) b)
+    ∙ ap (λ (z : ℕ). Finished (x && y) z j steps count) d ∙ ap (λ (z : ℕ). Finished (x && y) m z steps count) f
+
+-- zeros are clear marks and an empty list
+pub ready-zeros : {v w : List ℕ} (n : ℕ) → marksRoom ≤ n → {list : List ℕ} → Formed v → Formed w → list ≡ replicate n 0 →
+    Ready v w (replicate n 0) (replicate n 0) (replicate n 0) (replicate n 0) (replicate n 0) list
+ready-zeros {v} {w} n h f g e =
+    let k : marksRoom ≤ length (replicate {A = ℕ} n 0) = rw (length-replicate {A = ℕ} n 0) h in
+    subst (λ (l : List ℕ). Ready v w (replicate n 0) (replicate n 0) (replicate n 0) (replicate n 0) (replicate n 0) l) (sym e)
+    (record {
+      first-formed = f;
+      second-formed = g;
+      roomy = record { target-room = k; stamp-room = k; from-room = k; followed-room = k; flag-room = k; list-room = k };
+      cleared = record {
+        target-clear = clear-zeros n;
+        stamp-clear = clear-zeros n;
+        from-clear = clear-zeros n;
+        followed-clear = clear-zeros n;
+        flag-clear = clear-zeros n;
+        list-clear = clear-zeros n;
+      };
+    })
+
+blank-zeros : (n x : ℕ) → slotAt (replicate n 0) x ≡ Blank
+blank-zeros n x = rw (clear-zeros n (x * 2)) refl
+
+pub clear-long : {l : List ℕ} → l ≡ replicate 4096 0 → 4096 ≤ length l
+clear-long e = let h = ap length e in let k = length-replicate {A = ℕ} 4096 0 in omega arith
+
+less-one : (l : List ℕ) → map (λ (e : ℕ). e - 1) (map suc l) ≡ l
+less-one [] = refl
+less-one (x ∷ l) = ap (λ (u : List ℕ). (suc x - 1) ∷ u) (less-one l) ∙ ap (λ (y : ℕ). y ∷ l) (let q : suc x - 1 ≡ x = omega arith in q)
+
+suc-at : (l : List ℕ) (i : ℕ) → i < length l → getD (map suc l) i 0 ≡ suc (getD l i 0)
+suc-at [] i h = absurd (let q : ⊥ = omega arith in q)
+suc-at (x ∷ l) zero h = refl
+suc-at (x ∷ l) (suc i) h = suc-at l i (let k : suc i < suc (length l) = h in omega arith)
+
+flags-same : (G : Graph) {c d : ℕ → Bool} → Flags G c → Flags G d → c ≡ d
+flags-same G {c} {d} p q = fun-ext (λ x. go x (c x) (d x) refl refl)
+  where
+    go : (x : ℕ) (a b : Bool) → c x ≡ a → d x ≡ b → a ≡ b
+    go x true true e f = refl
+    go x false false e f = refl
+    go x true false e f = sym (q x .1 (p x .0 e)) ∙ f
+    go x false true e f = sym e ∙ p x .1 (q x .0 f)
+
+module _ (v b w c : List ℕ) {count len : ℕ} {ta st fr fo fl ls : List ℕ} (f : Formed v) (g : Formed w) (t : Traversed (pairGraph v b w c) count len ta st fr fo fl ls) where
+  abbrev G : Graph
+  G = pairGraph v b w c
+
+  sound : Sound (pairGraph v b w c)
+  sound = pair-sound v b w c f g
+
+  entered : Entered (needs (pairGraph v b w c) (raised fl)) [] (pairGraph v b w c .roots) (t .order)
+  entered = go (t .is-list)
+    where
+      go : (d : ℕ → Bool) × Flags (pairGraph v b w c) d × Entered (needs (pairGraph v b w c) d) [] (pairGraph v b w c .roots) (t .order) →
+          Entered (needs (pairGraph v b w c) (raised fl)) [] (pairGraph v b w c .roots) (t .order)
+      go (d, k, e) = subst (λ (h : ℕ → Bool). Entered (needs (pairGraph v b w c) h) [] (pairGraph v b w c .roots) (t .order)) (flags-same (pairGraph v b w c) k (t .circular)) e
+
+  nodes : Each (Node (pairGraph v b w c)) (t .order)
+  nodes = entered-part (λ x n y m. sound .links-in x y (needs-links (pairGraph v b w c) sound (raised fl) (t .circular) x y m)) entered (λ y m. absurd (mem-nil m)) (sound .roots-in)
+
+  needed-are : needed (pairGraph v b w c) ta fl ≡ needs (pairGraph v b w c) (raised fl)
+  unfolding needed
+  needed-are = fun-ext (λ x. sym (needs-led sound t x))
+
+  long : (length ls ≡ length (t .order) + (length ls - length (t .order)))
+  long =
+      ap length (t .written) ∙ length-append (map suc (t .order)) (replicate (length ls - length (t .order)) 0)
+      ∙ (let p = length-map (t .order) suc in let q = length-replicate {A = ℕ} (length ls - length (t .order)) 0 in
+      let z : length (map suc (t .order)) + length (replicate {A = ℕ} (length ls - length (t .order)) 0) ≡ length (t .order) + (length ls - length (t .order)) = omega arith in z)
+
+  entries-are : entries len ls ≡ t .order
+  unfolding entries
+  entries-are =
+      ap (λ (l : List ℕ). map (λ (e : ℕ). e - 1) l)
+      (ap (λ (l : List ℕ). take len l) (t .written)
+      ∙ ap (λ (n : ℕ). take n (map suc (t .order) ++ replicate (length ls - length (t .order)) 0)) (t .length-is ∙ sym (length-map (t .order) suc))
+      ∙ take-append-seam (map suc (t .order)) (replicate (length ls - length (t .order)) 0))
+      ∙ less-one (t .order)
+
+  entry-at : (i : ℕ) → i < len → getD ls i 0 ≡ suc (getD (t .order) i 0)
+  entry-at i h =
+      let e = t .length-is in
+      let k = length-map (t .order) suc in
+      ap (λ (l : List ℕ). getD l i 0) (t .written) ∙ List·getD-append (map suc (t .order)) _ 0 i (omega arith) ∙ suc-at (t .order) i (omega arith)
+
+  stands : (x : ℕ) → Node (pairGraph v b w c) x → Stands v w x
+  unfolding pairGraph
+  stands x h = h
+
+  -- what the run asks
+  pub at-run : {tb : List ℕ} → 2048 ≤ length ta → 2048 ≤ length fl → 4096 ≤ length tb → AtRun v w ta fl ls tb len
+  at-run h k m = record {
+    first-formed = f;
+    second-formed = g;
+    target-room = h;
+    flag-room = k;
+    list-room = let e = t .length-is in let z = long in omega arith;
+    table-room = m;
+    listed = λ i l.
+        let e = entry-at i l in
+        let n = t .length-is in
+        (omega arith, subst (λ (u : ℕ). Stands v w u) (let q : getD (t .order) i 0 ≡ getD ls i 0 - 1 = omega arith in q) (stands _ (nodes (getD (t .order) i 0) (at-mem (t .order) i (omega arith)))));
+  }
+
+  -- what the traversal counted
+  counted : Counted (pairGraph v b w c) count
+  unfolding view
+  counted = record { ends = sym (ap (λ (s : State). s .place) (t .ends)); exact = t .exact; small = t .small }
+
+  module _ {budget steps : ℕ} {before tb : List ℕ} (clear : before ≡ replicate 4096 0) (r : RunTo (needed (pairGraph v b w c) ta fl) (ruleAt v b w c) (entries len ls) 0 budget before tb steps) where
+    run-is : RunTo (needs (pairGraph v b w c) (raised fl)) (ruleAt v b w c) (t .order) 0 budget (replicate 4096 0) tb steps
+    run-is =
+        subst (λ (l : List ℕ). RunTo (needs (pairGraph v b w c) (raised fl)) (ruleAt v b w c) l 0 budget (replicate 4096 0) tb steps) entries-are
+        (subst (λ (n : ℕ → List ℕ). RunTo n (ruleAt v b w c) (entries len ls) 0 budget (replicate 4096 0) tb steps) needed-are
+        (subst (λ (l : List ℕ). RunTo (needed (pairGraph v b w c) ta fl) (ruleAt v b w c) (entries len ls) 0 budget l tb steps) clear r))
+
+    ran-is : Ran Held seen (needs (pairGraph v b w c) (raised fl)) (ruleAt v b w c) Blank (t .order) budget (slotAt tb)
+    ran-is =
+        subst (λ (s : ℕ → Slot). Ran Held seen (needs (pairGraph v b w c) (raised fl)) (ruleAt v b w c) Blank (t .order) budget s) (sym (run-is .slots))
+        (run-ran Held seen (needs (pairGraph v b w c) (raised fl)) (ruleAt v b w c) (needs-acyclic (pairGraph v b w c) sound (raised fl) (t .circular)) entered
+        (λ u. refl) Blank budget (slotAt (replicate 4096 0)) (blank-zeros 4096))
+
+    abbrev held : Bool → List ℕ → List ℕ → List ℕ → Value
+    held second words bytes name = valueIn (map (λ y. seen (slotAt tb y)) (rootsOf second words bytes name)) 0
+
+    -- a root's value is in the table where the list is covered
+    worked : length (t .order) ≤ budget → (l : List ℕ) → Each (λ y. y ∈ pairGraph v b w c .roots) l → Worth (needs (pairGraph v b w c) (raised fl)) (ruleAt v b w c) l (valueIn (map (λ y. seen (slotAt tb y)) l) 0)
+    worked h l m = worth-of (slotAt tb) l (λ x k. ran-is .holds x (subst (λ (u : List ℕ). x ∈ u) (sym (take-all budget (t .order) h)) (entered-in entered x (m x k))))
+
+    roots-first : Each (λ y. y ∈ pairGraph v b w c .roots) (rootsOf false v b requirements)
+    unfolding pairGraph
+    roots-first y m = mem-left _ m
+
+    roots-second : Each (λ y. y ∈ pairGraph v b w c .roots) (rootsOf true w c requirements)
+    unfolding pairGraph
+    roots-second y m = mem-right (rootsOf false v b requirements) (mem-left _ m)
+
+    ranks-first : Each (λ y. y ∈ pairGraph v b w c .roots) (rootsOf false v b rank)
+    unfolding pairGraph
+    ranks-first y m = mem-right (rootsOf false v b requirements) (mem-right (rootsOf true w c requirements) (mem-left _ m))
+
+    ranks-second : Each (λ y. y ∈ pairGraph v b w c .roots) (rootsOf true w c rank)
+    unfolding pairGraph
+    ranks-second y m = mem-right (rootsOf false v b requirements) (mem-right (rootsOf true w c requirements) (mem-right (rootsOf false v b rank) m))
+
+    steps-are : steps ≡ min budget (length (t .order))
+    steps-are = run-is .counts ∙ ap (λ (n : ℕ). min budget n) (let q : length (t .order) - 0 ≡ length (t .order) = omega arith in q)
+
+    -- THE MATCH
+    pub match-of : {o : Outcome} → length ls ≡ 2048 → (steps < len → o ≡ Unfinished steps count) →
+        (len ≤ steps → o ≡ Finished (isTrue (held false v b requirements) && isTrue (held true w c requirements)) (rankOf (held false v b rank)) (rankOf (held true w c rank)) steps count) →
+        Match v b w c budget tb ls o
+    match-of {o} h u e = record {
+      circular = raised fl;
+      flagged = t .circular;
+      order = t .order;
+      entered = entered;
+      listed = t .written ∙ ap (λ (n : ℕ). map suc (t .order) ++ replicate (n - length (t .order)) 0) h;
+      words = run-is .words;
+      ran = ran-is;
+      count = count;
+      counted = counted;
+      finished = λ k.
+          let a = steps-are in
+          let z = t .length-is in
+          let same : steps ≡ length (t .order) = omega arith in
+          record {
+            first-requirement = held false v b requirements;
+            second-requirement = held true w c requirements;
+            first-rank = held false v b rank;
+            second-rank = held true w c rank;
+            first-required = worked k (rootsOf false v b requirements) roots-first;
+            second-required = worked k (rootsOf true w c requirements) roots-second;
+            first-ranked = worked k (rootsOf false v b rank) ranks-first;
+            second-ranked = worked k (rootsOf true w c rank) ranks-second;
+            answers = e (omega arith) ∙ ap (λ (n : ℕ). Finished (isTrue (held false v b requirements) && isTrue (held true w c requirements)) (rankOf (held false v b rank)) (rankOf (held true w c rank)) n count) same;
+          };
+      unfinished = λ k.
+          let a = steps-are in
+          let z = t .length-is in
+          let same : steps ≡ budget = omega arith in
+          u (omega arith) ∙ ap (λ (n : ℕ). Unfinished n count) same;
+    }

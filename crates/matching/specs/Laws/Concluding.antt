@@ -1,0 +1,37 @@
+-- The value of a definition that the table holds. Assumes nothing.
+use Prim.Native.Nat.{ℕ, zero, suc, _-_}
+use native.Mathlib.Omega.{arith}
+use mathlib.Core.Path.{_≡_, refl, sym, ap, _∙_, subst}
+use mathlib.Core.Logic.{_≢_}
+use mathlib.Core.List.{List, [], _∷_, map}
+use Rattle.graph.specs.Members.{_∈_, here, Each}
+use Rattle.graph.specs.Transition.{marked}
+use Rattle.values.specs.declared.Value.{Value}
+use Rattle.values.specs.declared.Value.the-variants.{Undefined}
+use Rattle.slots.specs.declared.Slot.{Slot}
+use Rattle.slots.specs.declared.Slot.the-variants.{Held}
+use Rattle.nodes.specs.Nodes.{valueIn}
+use Rattle.valuation.specs.Gives.{Gives}
+use Rattle.evaluation.specs.Evaluation.{seen}
+use Rattle.matching.specs.Matching.{Worth, absent, present}
+
+module _ (f : ℕ → Value) where
+  pub root-none : (l : List ℕ) {r : ℕ} → r ≡ marked l → r ≡ 0 → Undefined ≡ valueIn (map f l) 0
+  unfolding valueIn
+  root-none [] e z = refl
+  root-none (y ∷ ys) e z = absurd (let q : _≡_ {A = ℕ} (suc y) 0 = sym e ∙ z in let p : ⊥ = omega arith in p)
+
+  pub root-some : (l : List ℕ) {r : ℕ} {v : Value} → r ≡ marked l → r ≢ 0 → v ≡ f (r - 1) → v ≡ valueIn (map f l) 0
+  unfolding valueIn
+  root-some [] e n q = absurd (n e)
+  root-some (y ∷ ys) {r} e n q = q ∙ ap f (let p : r ≡ suc y = e in let s : r - 1 ≡ y = omega arith in s)
+
+-- what the table holds for a root that was worked out is the value of its definition
+pub worth-of : {need : ℕ → List ℕ} {rule : ℕ → List Value → Value} (t : ℕ → Slot) (l : List ℕ) → Each (λ x. (v : Value) × Gives need rule x v × (t x ≡ Held v)) l →
+    Worth need rule l (valueIn (map (λ y. seen (t y)) l) 0)
+unfolding valueIn
+worth-of t [] h = absent
+worth-of {need} {rule} t (x ∷ xs) h = go (h x (here refl))
+  where
+    go : (v : Value) × Gives need rule x v × (t x ≡ Held v) → Worth need rule (x ∷ xs) (seen (t x))
+    go (v, g, e) = present (subst (λ (u : Value). Gives need rule x u) (sym (ap seen e)) g)

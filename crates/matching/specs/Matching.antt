@@ -1,0 +1,75 @@
+-- The match of two stored ads: verdict, ranks, steps, and what is left in the table and in the list's room. v and b are the words and
+-- bytes of the first ad, w and c those of the second. Assumes nothing.
+use Prim.Native.Nat.{ℕ, suc, _-_, _*_, _+_, _^_, _≤_, _<_}
+use mathlib.Core.Path.{_≡_}
+use mathlib.Core.Bool.{Bool, true, false, cond, _&&_}
+use mathlib.Core.List.{List, [], _∷_, _++_, map}
+use lib.ListN.{length, take, replicate}
+use lib.Dec.{ltb}
+use Rattle.integers.specs.Integers.{width}
+use Rattle.values.specs.declared.Value.{Value}
+use Rattle.values.specs.declared.Value.the-variants.{Undefined}
+use Rattle.values.specs.Values.{kinds}
+use Rattle.slots.specs.declared.Slot.the-variants.{Blank, Held}
+use Rattle.slots.specs.Packed.{slotAt}
+use Rattle.graph.specs.Graph.{Graph, Flags, needs, Entered}
+use Rattle.graph.specs.Transition.{transitions, first, Ended}
+use Rattle.links.specs.Pair.{rootsOf, requirements, rank, pairGraph}
+use Rattle.valuation.specs.Gives.{Gives}
+use Rattle.valuation.specs.Run.{Ran}
+use Rattle.evaluation.specs.Evaluation.{ruleAt, seen, stepsWords}
+use Rattle.matching.specs.declared.Outcome.{Outcome}
+use Rattle.matching.specs.declared.Outcome.the-variants.{Finished, Unfinished}
+
+-- 'Matched: both Requirements are true, nothing else.'
+abbrev pub isTrue : Value → Bool
+isTrue = kinds false false (λ b. b) (λ x. false) (λ x. false) (λ side offset length. false)
+
+-- 'A rank is the Integer if it is 0 or more, otherwise 0 (also for Real, or no Rank at all)'
+abbrev pub rankOf : Value → ℕ
+rankOf = kinds 0 0 (λ b. 0) (λ x. cond (ltb x (2 ^ (width - 1))) x 0) (λ x. 0) (λ side offset length. 0)
+
+-- Worth xs v: v is the value of the definition whose root is in xs, or Undefined where there is none: 'those that exist'; 'or no Rank
+-- at all'
+pub data Worth (need : ℕ → List ℕ) (rule : ℕ → List Value → Value) : List ℕ → Value → Type 0 where
+  absent : Worth need rule [] Undefined
+  present : {x : ℕ} {xs : List ℕ} {v : Value} → Gives need rule x v → Worth need rule (x ∷ xs) v
+
+-- What a match answers when the list is covered: 'the match is then finished and answers verdict, both ranks and steps'. A rank
+-- 'stands unmatched too'.
+pub record Concluded (need : ℕ → List ℕ) (v b w c : List ℕ) (steps count : ℕ) (r : Outcome) : Type 0 where
+  pub first-requirement : Value
+  pub second-requirement : Value
+  pub first-rank : Value
+  pub second-rank : Value
+  pub first-required : Worth need (ruleAt v b w c) (rootsOf false v b requirements) first-requirement
+  pub second-required : Worth need (ruleAt v b w c) (rootsOf true w c requirements) second-requirement
+  pub first-ranked : Worth need (ruleAt v b w c) (rootsOf false v b rank) first-rank
+  pub second-ranked : Worth need (ruleAt v b w c) (rootsOf true w c rank) second-rank
+  pub answers : r ≡ Finished (isTrue first-requirement && isTrue second-requirement) (rankOf first-rank) (rankOf second-rank) steps count
+
+-- What the hunt of document 01 counted: 'its end is what these moves, exactly as many as it counts, make one after another of its first
+-- place, clear marks and an empty list'; 'a count of at most sixteen times the square of the nodes of both ads'
+pub record Counted (G : Graph) (count : ℕ) : Type 0 where
+  pub ends : Ended G (transitions G count (first G))
+  pub exact : (j : ℕ) → j < count → ¬ (Ended G (transitions G j (first G)))
+  pub small : count ≤ 16 * (G .size * G .size)
+
+-- THE MATCH OF TWO WELL-FORMED ADS within their rooms: table and list are what its 4,096 words of values and 2,048 entries hold after it.
+pub record Match (v b w c : List ℕ) (budget : ℕ) (table list : List ℕ) (r : Outcome) : Type 0 where
+  -- 'exactly the circular references and the list'
+  pub circular : ℕ → Bool
+  pub flagged : Flags (pairGraph v b w c) circular
+  pub order : List ℕ
+  pub entered : Entered (needs (pairGraph v b w c) circular) [] (pairGraph v b w c .roots) order
+  -- 'After a match the list's room holds the whole list, whatever the budget, then zeros'
+  pub listed : list ≡ map suc order ++ replicate (2048 - length order) 0
+  -- 'A match is this run at k = 0 from a blank table': its words, and its slots
+  pub words : table ≡ stepsWords (needs (pairGraph v b w c) circular) (ruleAt v b w c) (take budget order) (replicate 4096 0)
+  pub ran : Ran Held seen (needs (pairGraph v b w c) circular) (ruleAt v b w c) Blank order budget (slotAt table)
+  -- 'its result carrying a count'
+  pub count : ℕ
+  pub counted : Counted (pairGraph v b w c) count
+  -- 'A budget not below the list's length covers it; the match is then finished .., otherwise the steps done.'
+  pub finished : length order ≤ budget → Concluded (needs (pairGraph v b w c) circular) v b w c (length order) count r
+  pub unfinished : budget < length order → r ≡ Unfinished budget count

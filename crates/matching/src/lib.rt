@@ -1,0 +1,167 @@
+// The match of two stored ads. v and b are the words and bytes of the first ad, w and c those of the second.
+ghost use mathlib.Core.Path.{_≡_};
+ghost use mathlib.Core.Bool.{false, true, cond, _&&_};
+ghost use mathlib.Core.List.{map};
+ghost use Prim.Native.Nat.{_-_, _^_, _≤_, _<_};
+ghost use lib.ListN.{length, replicate};
+ghost use lib.Dec.{ltb};
+ghost use Rattle.integers.specs.Integers.{width};
+ghost use Rattle.ad.specs.Stored.{nodeCount};
+ghost use Rattle.slots.specs.Packed.{slotAt};
+ghost use Rattle.links.specs.Pair.{rootsOf, requirements, rank, Formed, Measured};
+ghost use Rattle.dependency.specs.Traversal.{Ready};
+ghost use Rattle.nodes.specs.Nodes.{valueIn};
+ghost use Rattle.evaluation.specs.Evaluation.{seen};
+ghost use Rattle.matching.specs.Matching.{isTrue, rankOf, Match};
+ghost use Rattle.matching.specs.declared.Outcome.the-variants.{Finished};
+use links::Counts;
+use values::Value;
+
+// What a match answers: a refusal's number and place; verdict, both ranks and steps of a finished one; or the steps done. The last
+// number is how many transitions its traversal took.
+pub enum Outcome {
+    Refused(u8, usize),
+    Finished(bool, u32, u32, usize, usize),
+    Unfinished(usize, usize),
+}
+
+fn is_true(v: Value) -> bool
+    ensures { λ r. ⌜ r ≡ isTrue v ⌝ }
+{
+    match v {
+        Value::Undefined => false,
+        Value::Error => false,
+        Value::Boolean(b) => b,
+        Value::Integer(_) => false,
+        Value::Real(_) => false,
+        Value::String(_, _, _) => false,
+    }
+}
+
+fn natural(x: u32) -> u32
+    ensures { λ r. ⌜ r ≡ cond (ltb x (2 ^ (width - 1))) x 0 ⌝ }
+{
+    if x < 0x8000_0000 {
+        return x;
+    }
+    0
+}
+
+fn rank_of(v: Value) -> u32
+    ensures { λ r. ⌜ r ≡ rankOf v ⌝ }
+{
+    match v {
+        Value::Undefined => 0,
+        Value::Error => 0,
+        Value::Boolean(_) => 0,
+        Value::Integer(x) => natural(x),
+        Value::Real(_) => 0,
+        Value::String(_, _, _) => 0,
+    }
+}
+
+// The value that the table holds for a name's definition in an ad of d definitions; Undefined where there is none.
+fn worth(words: &[u64], bytes: &[u8], d: usize, name: &[u8], second: bool, table: &[u64]) -> Value
+    requires { ⌜ Measured (now words) (nodeCount (now words)) d ⌝ }
+    ensures { λ r. ⌜ r ≡ valueIn (map (λ y. seen (slotAt (now (table .entry)) y)) (rootsOf second (now (words .entry)) (now (bytes .entry)) (now (name .entry)))) 0 ⌝ }
+{
+    let f = links::root_named(words, bytes, d, name, second);
+    if f == 0 {
+        return Value::Undefined;
+    }
+    evaluation::value_in(table, f - 1)
+}
+
+fn both(x: bool, y: bool) -> bool
+    ensures { λ r. ⌜ r ≡ (x && y) ⌝ }
+{
+    if x {
+        return y;
+    }
+    false
+}
+
+// Both Requirements and both Ranks, from the table.
+fn conclude(
+    v: &[u64],
+    b: &[u8],
+    w: &[u64],
+    c: &[u8],
+    table: &[u64],
+    steps: usize,
+    count: usize,
+) -> Outcome
+    requires { ⌜ Formed (now v) × Formed (now w) ⌝ }
+    ensures { λ r. ⌜ r ≡ Finished (isTrue (valueIn (map (λ y. seen (slotAt (now (table .entry)) y)) (rootsOf false (now (v .entry)) (now (b .entry)) requirements)) 0) && isTrue (valueIn (map (λ y. seen (slotAt (now (table .entry)) y)) (rootsOf true (now (w .entry)) (now (c .entry)) requirements)) 0)) (rankOf (valueIn (map (λ y. seen (slotAt (now (table .entry)) y)) (rootsOf false (now (v .entry)) (now (b .entry)) rank)) 0)) (rankOf (valueIn (map (λ y. seen (slotAt (now (table .entry)) y)) (rootsOf true (now (w .entry)) (now (c .entry)) rank)) 0)) steps count ⌝ }
+{
+    let p = links::measure(v);
+    let q = links::measure(w);
+    let x = is_true(worth(v, b, p.definitions, b"Requirements", false, table));
+    let y = is_true(worth(w, c, q.definitions, b"Requirements", true, table));
+    let i = rank_of(worth(v, b, p.definitions, b"Rank", false, table));
+    let j = rank_of(worth(w, c, q.definitions, b"Rank", true, table));
+    Outcome::Finished(both(x, y), i, j, steps, count)
+}
+
+// The match of two well-formed ads, from clear marks, an empty list and a blank table.
+fn match_marked(
+    v: &[u64],
+    b: &[u8],
+    w: &[u64],
+    c: &[u8],
+    target: &mut [usize],
+    stamp: &mut [usize],
+    from: &mut [usize],
+    followed: &mut [usize],
+    flag: &mut [usize],
+    list: &mut [u64],
+    table: &mut [u64],
+    budget: u16,
+) -> Outcome
+    requires ready { ⌜ Ready (now v) (now w) (now target) (now stamp) (now from) (now followed) (now flag) (now list) ⌝ }
+    requires room { ⌜ (length (now list) ≡ 2048) × (now table ≡ replicate 4096 0) ⌝ }
+    ensures { λ r. ⌜ Match (now (v .entry)) (now (b .entry)) (now (w .entry)) (now (c .entry)) budget (now (table .exit)) (now (list .exit)) r ⌝ }
+{
+    let t = dependency::traverse(v, b, w, c, target, stamp, from, followed, flag, list);
+    let steps = evaluation::run(v, b, w, c, target, flag, list, t.length, 0, budget, table);
+    if steps < t.length {
+        return Outcome::Unfinished(steps, t.count);
+    }
+    conclude(v, b, w, c, table, steps, t.count)
+}
+
+// The match of two well-formed ads in a table of 2,048 slots and a list's room of 2,048 entries, whatever they hold.
+fn match_formed(
+    v: &[u64],
+    b: &[u8],
+    w: &[u64],
+    c: &[u8],
+    table: &mut [u64],
+    list: &mut [u64],
+    budget: u16,
+) -> Outcome
+    requires { ⌜ Formed (now v) × Formed (now w) × (length (now table) ≡ 4096) × (length (now list) ≡ 2048) ⌝ }
+    ensures { λ r. ⌜ Match (now (v .entry)) (now (b .entry)) (now (w .entry)) (now (c .entry)) budget (now (table .exit)) (now (list .exit)) r ⌝ }
+{
+    ad::clear_words(table);
+    ad::clear_words(list);
+    let mut target = [0usize; 2048];
+    let mut stamp = [0usize; 2048];
+    let mut from = [0usize; 2048];
+    let mut followed = [0usize; 2048];
+    let mut flag = [0usize; 2048];
+    match_marked(
+        v,
+        b,
+        w,
+        c,
+        &mut target,
+        &mut stamp,
+        &mut from,
+        &mut followed,
+        &mut flag,
+        list,
+        table,
+        budget,
+    )
+}
