@@ -91,7 +91,7 @@ fn read_arms(
     match lookahead::symbol_at(text, at, Symbol::Question) {
         SymbolAt::Absent(_, _) => Read::Done(at, n, k),
         SymbolAt::Here(p, q) => {
-            if 64 <= depth {
+            if 64 <= depth { // level 65 at its `?`
                 return Read::Refused(6, p);
             }
             if 1024 <= n + begun {
@@ -199,7 +199,7 @@ fn read_unary(
     match lookahead::unary_at(text, at) {
         UnaryAt::Absent => read_primary(text, at, depth, n, k, begun, words, bytes),
         UnaryAt::Here(o, p, q) => {
-            if 64 <= depth {
+            if 64 <= depth { // level 65 at its operator
                 return Read::Refused(6, p);
             }
             if 1024 <= n + begun {
@@ -236,7 +236,7 @@ fn read_primary(
         Leaf::Done(q, m, i) => Read::Done(q, m, i),
         Leaf::Refused(y, x) => Read::Refused(y, x),
         Leaf::Open(p, q) => {
-            if 64 <= depth {
+            if 64 <= depth { // level 65 at its `(`
                 return Read::Refused(6, p);
             }
             match read_conditional(text, q, depth + 1, n, k, begun, words, bytes) {
