@@ -14,7 +14,7 @@ use Rattle.syntax.specs.Reader.{parse, read}
 use Rattle.syntax.specs.Laws.Accepts.{accepts}
 use Rattle.ad.specs.Layout.{padded, adNodes, adDefinitions, adBytes, storedWords, storedBytes}
 use Rattle.leaves.specs.Marks.{Memory, memory}
-use Rattle.reader.specs.Content.{answerOf, wordsOf, bytesOf, answer, wordsAfter, bytesAfter, Answered, Left}
+use Rattle.reader.specs.Content.{answerOf, wordsOf, bytesOf, answer, wordsAfter, bytesAfter, Answered, Left, Cleared}
 use Rattle.reader.specs.Post.{storedIn, AgreesAd}
 use Rattle.reader.specs.declared.Answer.{Answer}
 use Rattle.reader.specs.declared.Answer.the-variants.{Accepted, Refused}
@@ -65,8 +65,8 @@ module _ (s w₀ b₀ w′ b′ : List ℕ) (hw : w₀ ≡ replicate 4864 0) (hb
       }
 
 -- refused, and cleared again
-pub into-none : (s w′ b′ : List ℕ) (k p : ℕ) → parse s ≡ R.denied k p → w′ ≡ replicate 4864 0 → b′ ≡ replicate 16384 0 → Left (parse s) w′ b′ (Refused k p)
-into-none s w′ b′ k p e hw hb = record { answers = rw e refl; words = rw e hw; bytes = rw e hb }
+pub into-none : (s w b w′ b′ : List ℕ) (k p : ℕ) (r : Answer) → parse s ≡ R.denied k p → Cleared w b w′ b′ k p r → length w ≡ 4864 → length b ≡ 16384 → Left (parse s) w′ b′ r
+into-none s w b w′ b′ k p r e h hw hb = record { answers = rw e (h .answers); words = rw e (h .words ∙ zeros hw); bytes = rw e (h .bytes ∙ zeros hb) }
 
 module _ (s w b : List ℕ) where
   pub small-words : length w < 4864 → Answered s w b w b (Refused 1 0)

@@ -64,3 +64,9 @@ pub record Left (p : R.Answer) (w′ b′ : List ℕ) (r : Answer) : Type 0 wher
   pub answers : r ≡ answerOf p
   pub words : w′ ≡ wordsOf p
   pub bytes : b′ ≡ bytesOf p
+
+-- a refusal that leaves 'ad memory zero', whatever the readers left there
+pub record Cleared (w b w′ b′ : List ℕ) (k p : ℕ) (r : Answer) : Type 0 where
+  pub answers : r ≡ Refused k p
+  pub words : w′ ≡ replicate (length w) 0
+  pub bytes : b′ ≡ replicate (length b) 0

@@ -9,7 +9,7 @@ ghost use Prim.Native.Nat.{_+_, _≤_, _<_};
 ghost use lib.ListN.{length};
 ghost use Rattle.leaves.specs.Marks.{mark, memory};
 ghost use Rattle.reader.specs.Post.{definedIn, AdRoom, AgreesAd, DefinitionsOk, BehindOk, EndOk, DefinitionOk, DefinitionWithin};
-ghost use Rattle.reader.specs.Content.{Exact, Left, Answered};
+ghost use Rattle.reader.specs.Content.{Exact, Left, Cleared, Answered};
 ghost use Rattle.syntax.specs.Reader.{parse};
 
 // What reading a text gives.
@@ -145,6 +145,15 @@ fn read_ad(text: &[u8], words: &mut [u64], bytes: &mut [u8]) -> Answer
     }
 }
 
+// A refusal after the readers began: what they left is cleared.
+fn refuse(k: u8, p: usize, w: &mut [u64], b: &mut [u8]) -> Answer
+    ensures { λ r. ⌜ Cleared (now (w .entry)) (now (b .entry)) (now (w .exit)) (now (b .exit)) k p r ⌝ }
+{
+    ad::clear_words(w);
+    ad::clear_bytes(b);
+    Answer::Refused(k, p)
+}
+
 // An ad into exactly the room of one: stored with zeros behind it, or all zero.
 fn read_into(text: &[u8], words: &mut [u64], bytes: &mut [u8]) -> Answer
     requires { ⌜ Exact (now text) (now words) (now bytes) ⌝ }
@@ -154,11 +163,7 @@ fn read_into(text: &[u8], words: &mut [u64], bytes: &mut [u8]) -> Answer
     ad::clear_bytes(bytes);
     match read_ad(text, words, bytes) {
         Answer::Accepted(d, n) => Answer::Accepted(d, n),
-        Answer::Refused(k, p) => {
-            ad::clear_words(words);
-            ad::clear_bytes(bytes);
-            Answer::Refused(k, p)
-        }
+        Answer::Refused(k, p) => refuse(k, p, words, bytes),
     }
 }
 
