@@ -1,3 +1,8 @@
 -- What is proved of the grammar, the reader's definition and stored ads together.
 pub mod Tokens
 pub mod Accepted
+pub mod Alike
+pub mod Stops
+pub mod Expressions
+pub mod Ads
+pub mod Refusals

@@ -1,10 +1,9 @@
 -- The memory of an accepted ad says which ad it holds. Assumes nothing.
-use Prim.Native.Nat.{ℕ, _≤_, _<_}
+use Prim.Native.Nat.{ℕ}
 use mathlib.Core.Path.{_≡_}
 use mathlib.Core.List.{List, [], _∷_, _++_}
-use Rattle.syntax.specs.Bounds.{maxNodes}
-use Rattle.syntax.specs.Tree.{Ad, nodes}
-use Rattle.syntax.specs.Token.{Token, symbol, tokens}
+use Rattle.syntax.specs.Tree.{Ad}
+use Rattle.syntax.specs.Token.{Token, symbol}
 use Rattle.syntax.specs.Grammar.{Defines, defines-one, defines-more, IsAd, ad-empty, ad-plain, ad-trailing}
 use Rattle.syntax.specs.Reader.{accepted, parse}
 use Rattle.syntax.specs.Laws.Accepts.{accepts}

@@ -1,17 +1,17 @@
 -- The tokens of a text: a Name has at least one byte, and a token that is refused by itself has a number of its own (3, 5 or 7),
 -- not 4. Assumes nothing.
-use Prim.Native.Nat.{ℕ, zero, suc, _+_, _-_, _≤_, _<_}
+use Prim.Native.Nat.{ℕ, zero, suc, _+_, _-_, _<_}
 use Prim.Native.Char.{code}
 use native.Mathlib.Omega.{arith}
-use mathlib.Core.Path.{_≡_, refl, sym, _∙_, ap, subst}
-use mathlib.Core.Bool.{Bool, true, false, _||_}
-use mathlib.Core.List.{List, [], _∷_, _++_}
+use mathlib.Core.Path.{_≡_, refl}
+use mathlib.Core.Bool.{true}
+use mathlib.Core.List.{List, [], _∷_}
 use lib.ListN.{length, drop}
 use lib.Dec.{ltb, eqb}
 use Rattle.text.specs.Bytes.{isBlank, isDigit, startsName, continuesName}
 use Rattle.text.specs.Strings.{sameName}
 use Rattle.syntax.specs.Bounds.{nameBytes, stringBytes, maxInteger, realDigits}
-use Rattle.syntax.specs.Token.{Token, word, constant, operator, symbol, Tokens, next, end, bad, pick, Front, good, wrong, Spelling, reserved, wordIn, frontOf, nameFront, integerFront, realFront, numberFront, fractionOf, valueOf, Body, closed, broken, stringOf, bodyOf, begins, symbolIn, spellings, frontToken, onFront, tokensFrom, tokens}
+use Rattle.syntax.specs.Token.{Token, word, constant, operator, symbol, Tokens, next, end, bad, Front, good, wrong, Spelling, reserved, wordIn, frontOf, nameFront, integerFront, realFront, numberFront, fractionOf, valueOf, Body, closed, broken, stringOf, bodyOf, begins, symbolIn, spellings, frontToken, onFront, tokensFrom, tokens}
 use Rattle.syntax.specs.Grammar.{Follows, none, some}
 use Rattle.syntax.specs.Laws.Codes.{on-pick}
 
