@@ -26,7 +26,7 @@ Misfit ts p (end n) = (n ≡ p) × ((a : Ad) → IsAd ts a → ⊥)
 Misfit ts p (bad k q) = ⊥
 
 -- A refusal k at the place p: `before` are the tokens in front of it, and `rest` is what stands there. More tokens make an ad of
--- `before`, so that none of them breaks a rule of the grammar; and a refusal 4 is at the first that continues no ad
+-- `before`, so that none of them breaks a rule of the grammar; and a refusal 4 or 6 is at the first that continues no ad
 pub record Refusal (u : Tokens) (k p : ℕ) : Type 0 where
   pub before : List Token
   pub rest : Tokens
@@ -34,3 +34,5 @@ pub record Refusal (u : Tokens) (k p : ℕ) : Type 0 where
   pub at : At k p rest
   pub viable : Viable before
   pub first : k ≡ 4 → Misfit before p rest
+  -- 'level 65': levels are part of the grammar
+  pub deep : k ≡ 6 → Misfit before p rest

@@ -1,7 +1,7 @@
 -- Where the reader of ads stops. Assumes nothing.
 use Prim.Native.Nat.{ℕ, zero, suc, _+_, _≤_, _<_}
 use native.Mathlib.Omega.{arith}
-use mathlib.Core.Path.{_≡_, refl, sym, subst}
+use mathlib.Core.Path.{refl, sym, subst}
 use mathlib.Core.List.{List, [], _∷_, _++_, append-assoc}
 use lib.ListN.{length}
 use lib.Dec.{leb}
@@ -90,7 +90,7 @@ pub record StopsA (T : List Token → Ad → Type 0) (R : RunA) (u : Tokens) (k 
   pub follows : Follows u those rest
   pub at : At k p rest
   pub more : ExtendsA T those
-  pub local : k ≡ 4 → LocalA R those rest
+  pub local : k < 8 → LocalA R those rest
 
 module _ (R : ℕ → ℕ → Type 0) where
   misfit-ends : (u : Tokens) → ((k p : ℕ) → At k p u → R k p) → AllA R (misfit denied u)
@@ -186,12 +186,12 @@ unfolding definitionsAt
 definitions-assign n w i K zero u y a c g al = tt
 definitions-assign n w i K (suc f) u y a c (some {p = p} none) al = admit-denied K n p a _ (no-want-denied (symbol Assign) y _ (front-alike (Unlike (symbol Assign)) al i))
 
-definitions-stuck : (n : List ℕ) (x : Tokens) (k p : ℕ) (s : Stops (conditionalR 0) 0 0 [] x k p) → k ≡ 4 → LocalA definitionsR (word n ∷ symbol Assign ∷ s .those) (s .rest)
+definitions-stuck : (n : List ℕ) (x : Tokens) (k p : ℕ) (s : Stops (conditionalR 0) 0 0 [] x k p) → k < 8 → LocalA definitionsR (word n ∷ symbol Assign ∷ s .those) (s .rest)
 unfolding definitionsAt
 definitions-stuck n x k p s h K zero u y a c g al = tt
 definitions-stuck n x k p s h K (suc f) u y a c (some {p = q} (some {u = v} g)) al = admit-denied K n q a _ (stuck-denied y (conditionalAt K (enough v) v 0 c) _ (s .local h K (enough v) v y c g al))
 
-definitions-behind : (n : List ℕ) (x z : Tokens) (e : Expr) (g : Got (conditionalR 0) 0 0 [] x e z) (k p : ℕ) (s : StopsA Behind behindR z k p) → k ≡ 4 → LocalA definitionsR (word n ∷ symbol Assign ∷ (g .those ++ s .those)) (s .rest)
+definitions-behind : (n : List ℕ) (x z : Tokens) (e : Expr) (g : Got (conditionalR 0) 0 0 [] x e z) (k p : ℕ) (s : StopsA Behind behindR z k p) → k < 8 → LocalA definitionsR (word n ∷ symbol Assign ∷ (g .those ++ s .those)) (s .rest)
 unfolding definitionsAt
 definitions-behind n x z e g k p s h K zero u y a c i al = tt
 definitions-behind n x z e g k p s h K (suc f) u y a c (some {p = q} (some {u = v} i)) al =
@@ -205,7 +205,7 @@ behind-none w i j K zero u y a c g al = tt
 behind-none w i j K (suc f) u y a c none al =
     unlike-denied (symbol Semicolon) u _ _ (front-alike (Unlike (symbol Semicolon)) al i) (unlike-denied (symbol CloseBracket) u _ _ (front-alike (Unlike (symbol CloseBracket)) al j) (misfit-denied u))
 
-behind-semicolon : (z : Tokens) (k p : ℕ) (s : StopsA Closes definitionsR z k p) → k ≡ 4 → LocalA behindR (symbol Semicolon ∷ s .those) (s .rest)
+behind-semicolon : (z : Tokens) (k p : ℕ) (s : StopsA Closes definitionsR z k p) → k < 8 → LocalA behindR (symbol Semicolon ∷ s .those) (s .rest)
 unfolding definitionsAt
 behind-semicolon z k p s h K zero u y a c g al = tt
 behind-semicolon z k p s h K (suc f) u y a c (some {u = v} g) al = s .local h K f v y a c g al
@@ -214,7 +214,7 @@ ad-none : (w : Tokens) → InFront (Unlike (symbol OpenBracket)) w → LocalA ad
 unfolding adAt
 ad-none w i K f u y a c none al = no-want-denied (symbol OpenBracket) u _ (front-alike (Unlike (symbol OpenBracket)) al i)
 
-ad-open : (z : Tokens) (k p : ℕ) (s : StopsA Closes definitionsR z k p) → k ≡ 4 → LocalA adR (symbol OpenBracket ∷ s .those) (s .rest)
+ad-open : (z : Tokens) (k p : ℕ) (s : StopsA Closes definitionsR z k p) → k < 8 → LocalA adR (symbol OpenBracket ∷ s .those) (s .rest)
 unfolding adAt
 ad-open z k p s h K f u y a c (some {u = v} g) al = s .local h K (enough v) v y [] 0 g al
 
@@ -295,7 +295,7 @@ module _ (L : Limits) where
         (λ p v st. end-ends Behind behindR u v a behind-last (st .step) behind-close)
         (λ j. misfit-ends R u (λ k p at. record { those = []; rest = u; follows = none; at = at; more = record { more = symbol CloseBracket ∷ []; tree = []; sentence = behind-last }; local = λ h. behind-none u i j })))
 
-  -- WHERE THE READER OF ADS STOPS: the tokens in front can become an ad, and a refusal 4 comes of these tokens and the next alone
+  -- WHERE THE READER OF ADS STOPS: the tokens in front can become an ad, and a refusal below 8 comes of these tokens and the next alone
   pub ad-ends : (u : Tokens) → AllA (StopsA IsAd adR u) (adAt L u)
   unfolding adAt
   ad-ends u =

@@ -1,11 +1,11 @@
 -- Two runs of a reader over tokens that are alike up to some token and at it: the second goes the way of the first. The second has
 -- limits and a depth of calls of its own, and may be refused anywhere by these. Assumes nothing.
-use Prim.Native.Nat.{ℕ}
+use Prim.Native.Nat.{ℕ, _≤_}
 use mathlib.Core.Path.{_≡_, sym, subst}
 use mathlib.Core.Bool.{false}
 use mathlib.Core.List.{List, [], _∷_, _++_}
 use lib.Dec.{leb, eqb}
-use borrow.Author.Tests.{eq-eqb}
+use borrow.Author.Tests.{eq-eqb, le-leb}
 use Rattle.syntax.specs.Bounds.{maxLevel}
 use Rattle.syntax.specs.Tree.{Literal, Expr}
 use Rattle.syntax.specs.Token.{Token, word, constant, operator, symbol, Tokens, next, end, bad}
@@ -26,6 +26,9 @@ pub data Alike : Tokens → Tokens → Type 0 where
 pub alike-front : {u v x y : Tokens} {ts : List Token} → Follows u ts x → Follows v ts y → Alike x y → Alike u v
 alike-front none none a = a
 alike-front (some f) (some g) a = alike-next
+
+pub alike-step : {u v w : Tokens} {t : Token} → Alike u v → Follows u (t ∷ []) w → (x : Tokens) × Follows v (t ∷ []) x
+alike-step (alike-next {v = x}) (some none) = (x, some none)
 
 -- what holds of the token in front, if there is one
 abbrev pub InFront : (Token → Type 0) → Tokens → Type 0
@@ -89,6 +92,9 @@ module _ (o : Outcome) (w : Tokens) where
 
   pub level-meets : (d p : ℕ) (go : Unit {0} → Parsed) → Meets o w (go tt) → Meets o w (level d p go)
   level-meets d p go h = on-pick (Meets o w) (leb maxLevel d) _ go (λ _. tt) (λ _. h)
+
+  pub level-deep : (d p : ℕ) (go : Unit {0} → Parsed) → maxLevel ≤ d → Meets o w (level d p go)
+  level-deep d p go h = rw (le-leb maxLevel d h) tt
 
   pub room-meets : (K : Limits) (c p : ℕ) (go : Unit {0} → Parsed) → Meets o w (go tt) → Meets o w (room K c p go)
   room-meets K c p go h = on-pick (Meets o w) (leb (K .most-nodes) c) _ go (λ _. tt) (λ _. h)

@@ -18,8 +18,8 @@ use Rattle.syntax.specs.declared.Binary.{Binary}
 use Rattle.syntax.specs.declared.Unary.{Unary}
 use Rattle.syntax.specs.declared.Symbol.the-variants.{Question, Colon, OpenParenthesis, CloseParenthesis, Point, Other}
 use Rattle.grammar.specs.Viable.{At}
-use Rattle.grammar.specs.Laws.Alike.{InFront, front-alike, Unlike, NoUnary, NoBinary, NoWord, NoLiteral, Outcome, done, stuck, after-stuck, after-done, level-meets, room-meets, misfit-meets, token-meets, want-meets, unary-meets, binary-meets, unlike-meets, no-want-meets, no-unary-meets, no-binary-meets, no-word-meets, no-literal-meets, Run, Local, Passes, through}
-use Rattle.grammar.specs.Laws.Stops.{All, on-after, on-all, on-level, on-room, on-misfit, on-token, on-want, on-word, on-literal, on-binary, on-unary, Extends, extends-none, extends-read, extends-tighter, extends-binary, extends-unary, extends-parentheses, extends-first, extends-second, Got, Stops, join-got, join-stops, wrap-stops, stop-first}
+use Rattle.grammar.specs.Laws.Alike.{alike-step, Meets, level-deep, InFront, front-alike, Unlike, NoUnary, NoBinary, NoWord, NoLiteral, Outcome, done, stuck, after-stuck, after-done, level-meets, room-meets, misfit-meets, token-meets, want-meets, unary-meets, binary-meets, unlike-meets, no-want-meets, no-unary-meets, no-binary-meets, no-word-meets, no-literal-meets, Run, Local, Passes, through}
+use Rattle.grammar.specs.Laws.Stops.{All, on-after, on-all, on-level, on-room, on-misfit, on-token, on-want, on-word, on-literal, on-binary, on-unary, Extends, extends-none, extends-read, extends-tighter, extends-binary, extends-unary, extends-parentheses, extends-first, extends-second, Got, Stops, join-got, join-stops, wrap-stops, stop-first, stop-full}
 
 -- ---- the readers, and what is left of them behind a part that was read
 
@@ -66,6 +66,14 @@ arms-none : (d : ℕ) (e : Expr) (w : Tokens) → InFront (Unlike (symbol Questi
 unfolding conditionalAt
 arms-none d e w i K zero u y c f al = tt
 arms-none d e w i K (suc g) u y c none al = unlike-meets (done e) u (symbol Question) u _ _ (front-alike (Unlike (symbol Question)) al i) (refl, refl)
+
+-- 'Level 65 is refused at its `(`, unary operator or `?`.'
+arms-deep : (d : ℕ) (e : Expr) (w v : Tokens) → maxLevel ≤ d → Follows w (symbol Question ∷ []) v → Local (armsR d e) [] stuck w
+unfolding conditionalAt
+arms-deep d e w v hd s K zero u y c f al = tt
+arms-deep d e w v hd s K (suc g) u y c none al =
+    let x = alike-step al s in
+    token-meets stuck u (symbol Question) u (x .0) _ _ (x .1) λ p. level-deep stuck u d p _ hd
 
 arms-first : (d : ℕ) (e : Expr) (w : Tokens) → Passes stuck (armsR d e) (conditionalR (d + 1)) (symbol Question ∷ []) w
 unfolding conditionalAt
@@ -134,6 +142,13 @@ unfolding conditionalAt
 unary-primary o d w i K zero u x y c f al h = tt
 unary-primary o d w i K (suc g) u x y c none al h = no-unary-meets o y u (behind-unary K g d c) (λ _. primaryAt K g u d c) (front-alike NoUnary al i) (h g c)
 
+unary-deep : (d : ℕ) (j : Unary) (w v : Tokens) → maxLevel ≤ d → Follows w (unaryToken j ∷ []) v → Local (unaryR d) [] stuck w
+unfolding conditionalAt
+unary-deep d j w v hd s K zero u y c f al = tt
+unary-deep d j w v hd s K (suc g) u y c none al =
+    let x = alike-step al s in
+    unary-meets stuck u j u (x .0) (behind-unary K g d c) _ (x .1) λ p. level-deep stuck u d p _ hd
+
 unary-inner : (d : ℕ) (j : Unary) (w : Tokens) → Passes stuck (unaryR d) (unaryR (d + 1)) (unaryToken j ∷ []) w
 unfolding conditionalAt
 unary-inner d j w K zero u x y c f al h = tt
@@ -162,6 +177,16 @@ primary-other : (o : Outcome) (d : ℕ) (w : Tokens) → Passes o (primaryR d) p
 unfolding conditionalAt
 primary-other o d w K zero u x y c f al h = tt
 primary-other o d w K (suc g) u x y c (some {p = p} none) al h = room-meets o y K c p _ (h 0 0)
+
+-- at `(`
+open-deep : (K : Limits) (g d : ℕ) (u x : Tokens) (c : ℕ) → maxLevel ≤ d → Follows u (symbol OpenParenthesis ∷ []) x → Meets stuck u (primaryAt K (suc g) u d c)
+unfolding conditionalAt
+open-deep K g d u x c hd (some {p = p} none) = level-deep stuck u d p _ hd
+
+primary-deep : (d : ℕ) (w v : Tokens) → maxLevel ≤ d → Follows w (symbol OpenParenthesis ∷ []) v → Local (primaryR d) [] stuck w
+unfolding conditionalAt
+primary-deep d w v hd s K zero u y c f al = tt
+primary-deep d w v hd s K (suc g) u y c none al = let x = alike-step al s in open-deep K g d u (x .0) c hd (x .1)
 
 primary-inner : (d : ℕ) (w : Tokens) → Passes stuck (primaryR d) (conditionalR (d + 1)) (symbol OpenParenthesis ∷ []) w
 unfolding conditionalAt
@@ -266,8 +291,8 @@ module _ (L : Limits) where
         let S : Run = conditionalR (d + 1) in
         let here : Extends 0 d xs = extends-tighter (omega arith) (extends-read r) in
         on-token (Got R 0 d xs u) (Stops R 0 d xs u) (symbol Question) (symbol-coded Question) u _ _
-        (λ p v st. on-level (Got R 0 d xs u) (Stops R 0 d xs u) d p _ (stop-first R 0 d xs u 6 p (λ i. omega arith) (st .at 6) here) λ hd.
-        on-room (Got R 0 d xs u) (Stops R 0 d xs u) L c p _ (stop-first R 0 d xs u 9 p (λ i. omega arith) (st .at 9) here)
+        (λ p v st. on-level (Got R 0 d xs u) (Stops R 0 d xs u) d p _ (λ deep. stop-first R 0 d xs u 6 p (st .at 6) here (λ _. arms-deep d e u v deep (st .step))) λ hd.
+        on-room (Got R 0 d xs u) (Stops R 0 d xs u) L c p _ (stop-full R 0 d xs u p (st .at 9) here)
         (on-after (Got S 0 (d + 1) [] v) (Got R 0 d xs u) (Stops S 0 (d + 1) [] v) (Stops R 0 d xs u) (conditionalAt L f v (d + 1) (c + 1)) _ (conditional-ends f v (d + 1) (c + 1))
         (wrap-stops R S xs (symbol Question ∷ []) u v (st .step) 0 d 0 (d + 1) (λ ts x. extends-first hd r x) (arms-first d e v))
         (λ a w g. let T : Run = colonR d e a in
@@ -302,7 +327,7 @@ module _ (L : Limits) where
         let R : Run = restR b d e in
         let S : Run = binaryR (b + 1) d in
         on-binary (Got R b d xs u) (Stops R b d xs u) b u _ _
-        (λ j p v i st. on-room (Got R b d xs u) (Stops R b d xs u) L c p _ (stop-first R b d xs u 9 p (λ i. omega arith) (st .at 9) (extends-read r))
+        (λ j p v i st. on-room (Got R b d xs u) (Stops R b d xs u) L c p _ (stop-full R b d xs u p (st .at 9) (extends-read r))
         (on-after (Got S (b + 1) d [] v) (Got R b d xs u) (Stops S (b + 1) d [] v) (Stops R b d xs u) (binaryAt L f v (b + 1) d (c + 1)) _ (binary-ends f v (b + 1) d (c + 1) (omega arith))
         (wrap-stops R S xs (operator j ∷ []) u v (st .step) b d (b + 1) d (λ ts x. extends-binary j i r x) (rest-inner b d e j v i))
         (λ a w g. let T : Run = restR b d (binary j e a) in
@@ -319,8 +344,8 @@ module _ (L : Limits) where
         let R : Run = unaryR d in
         let S : Run = unaryR (d + 1) in
         on-unary (Got R 7 d [] u) (Stops R 7 d [] u) u (behind-unary L f d c) (λ _. primaryAt L f u d c)
-        (λ j p v st. on-level (Got R 7 d [] u) (Stops R 7 d [] u) d p _ (stop-first R 7 d [] u 6 p (λ i. omega arith) (st .at 6) (extends-none (omega arith))) λ hd.
-        on-room (Got R 7 d [] u) (Stops R 7 d [] u) L c p _ (stop-first R 7 d [] u 9 p (λ i. omega arith) (st .at 9) (extends-none (omega arith)))
+        (λ j p v st. on-level (Got R 7 d [] u) (Stops R 7 d [] u) d p _ (λ deep. stop-first R 7 d [] u 6 p (st .at 6) (extends-none (omega arith)) (λ _. unary-deep d j u v deep (st .step))) λ hd.
+        on-room (Got R 7 d [] u) (Stops R 7 d [] u) L c p _ (stop-full R 7 d [] u p (st .at 9) (extends-none (omega arith)))
         (on-after (Got S 7 (d + 1) [] v) (Got R 7 d [] u) (Stops S 7 (d + 1) [] v) (Stops R 7 d [] u) (unaryAt L f v (d + 1) (c + 1)) _ (unary-ends f v (d + 1) (c + 1))
         (wrap-stops R S [] (unaryToken j ∷ []) u v (st .step) 7 d 7 (d + 1) (λ ts x. extends-unary hd j x) (unary-inner d j v))
         (λ a w g. record { those = unaryToken j ∷ g .those; follows = follows-append (st .step) (g .follows); reads = reads-unary hd (g .reads); local = unary-done d j a (g .those) w (g .local) })))
@@ -333,7 +358,7 @@ module _ (L : Limits) where
     primary-ends (suc f) u d c =
         let R : Run = primaryR d in
         let S : Run = conditionalR (d + 1) in
-        let full : (p : ℕ) → ((k : ℕ) → At k p u) → Stops R 8 d [] u 9 p = λ p at. stop-first R 8 d [] u 9 p (λ i. omega arith) (at 9) (extends-none (omega arith)) in
+        let full : (p : ℕ) → ((k : ℕ) → At k p u) → Stops R 8 d [] u 9 p = λ p at. stop-full R 8 d [] u p (at 9) (extends-none (omega arith)) in
         on-literal (Got R 8 d [] u) (Stops R 8 d [] u) u _ _
         (λ p l v st. on-room (Got R 8 d [] u) (Stops R 8 d [] u) L c p _ (full p (st .at)) (record { those = constant l ∷ []; follows = st .step; reads = reads-literal; local = primary-literal d l v }))
         (λ no-literal. on-word (Got R 8 d [] u) (Stops R 8 d [] u) u _ _
@@ -343,7 +368,7 @@ module _ (L : Limits) where
         (on-all (Got pointR 8 d (symbol Other ∷ []) v) (Got R 8 d [] u) (Stops pointR 8 d (symbol Other ∷ []) v) (Stops R 8 d [] u) (pointR L f v c) (point-ends f d c v)
         (join-got R pointR [] (symbol Other ∷ []) u v (st .step) 8 d (λ o. primary-other o d v)) (join-stops R pointR [] (symbol Other ∷ []) u v (st .step) 8 d (λ o. primary-other o d v))))
         (λ no-other. on-token (Got R 8 d [] u) (Stops R 8 d [] u) (symbol OpenParenthesis) (symbol-coded OpenParenthesis) u _ _
-        (λ p v st. on-level (Got R 8 d [] u) (Stops R 8 d [] u) d p _ (stop-first R 8 d [] u 6 p (λ i. omega arith) (st .at 6) (extends-none (omega arith))) λ hd.
+        (λ p v st. on-level (Got R 8 d [] u) (Stops R 8 d [] u) d p _ (λ deep. stop-first R 8 d [] u 6 p (st .at 6) (extends-none (omega arith)) (λ _. primary-deep d u v deep (st .step))) λ hd.
         on-after (Got S 0 (d + 1) [] v) (Got R 8 d [] u) (Stops S 0 (d + 1) [] v) (Stops R 8 d [] u) (conditionalAt L f v (d + 1) c) _ (conditional-ends f v (d + 1) c)
         (wrap-stops R S [] (symbol OpenParenthesis ∷ []) u v (st .step) 8 d 0 (d + 1) (λ ts x. extends-parentheses hd x) (primary-inner d v))
         (λ e w g. let T : Run = closeR e in

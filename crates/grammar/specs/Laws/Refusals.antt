@@ -1,18 +1,21 @@
--- The place of a refusal: the tokens in front of it can become an ad, and a refusal 4 is at the first that continues none. Assumes
--- nothing.
-use Prim.Native.Nat.{ℕ}
+-- The place of a refusal: the tokens in front of it can become an ad, and a refusal 4 or 6 is at the first that continues none.
+-- Assumes nothing.
+use Prim.Native.Nat.{ℕ, _≤_, _<_}
 use native.Mathlib.Omega.{arith}
-use mathlib.Core.Path.{_≡_, refl, sym, subst}
-use mathlib.Core.Bool.{false}
+use mathlib.Core.Path.{_≡_, refl, sym, ap, subst}
+use mathlib.Core.Bool.{false, true≢false}
 use mathlib.Core.List.{List, [], _∷_, _++_, append-nil}
 use lib.ListN.{length}
+use lib.Dec.{ltb}
+use Rattle.syntax.specs.Bounds.{textBytes}
 use Rattle.syntax.specs.Tree.{Ad, nodes}
 use Rattle.syntax.specs.Token.{Token, Tokens, next, end, bad, tokens}
 use Rattle.syntax.specs.Grammar.{IsAd, NewAfter, Follows, none, some}
-use Rattle.syntax.specs.Reader.{accepted, denied, Limits, limits, adAt, parse}
+use Rattle.syntax.specs.Reader.{Answer, accepted, denied, Limits, limits, adAt, parse, read}
+use Rattle.syntax.specs.Laws.Codes.{on-pick}
 use Rattle.syntax.specs.Laws.Accepts.{ad-complete, refusals}
 use Rattle.grammar.specs.Viable.{At, Misfit, Refusal}
-use Rattle.grammar.specs.Laws.Tokens.{Lexed, tokens-lexed, follows-lexed}
+use Rattle.grammar.specs.Laws.Tokens.{Own, Lexed, tokens-lexed, follows-lexed}
 use Rattle.grammar.specs.Laws.Alike.{Alike, alike-next, alike-end}
 use Rattle.grammar.specs.Laws.Ads.{Denied, AllA, StopsA, adR, LocalA, ad-ends}
 
@@ -55,28 +58,43 @@ no-sentence ts us x a loc al i =
 
 -- ---- the theorem
 
-first-misfit : (ts : List Token) (p : ℕ) (x : Tokens) → At 4 p x → Lexed x → LocalA adR ts x → Misfit ts p x
+first-misfit : (ts : List Token) (k p : ℕ) (x : Tokens) → (Own k → ⊥) → At k p x → Lexed x → LocalA adR ts x → Misfit ts p x
 unfolding Lexed listed
-first-misfit ts p (next q t u) at h loc = (at, λ us a i. no-sentence ts (t ∷ us) (next q t u) a loc alike-next i)
-first-misfit ts p (end n) at h loc = (at, λ a i. no-sentence ts [] (end n) a loc alike-end (subst (λ (l : List Token). IsAd l a) (sym (append-nil ts)) i))
-first-misfit ts p (bad k q) at h loc = absurd (h (at .0))
+first-misfit ts k p (next q t u) n at h loc = (at, λ us a i. no-sentence ts (t ∷ us) (next q t u) a loc alike-next i)
+first-misfit ts k p (end m) n at h loc = (at, λ a i. no-sentence ts [] (end m) a loc alike-end (subst (λ (l : List Token). IsAd l a) (sym (append-nil ts)) i))
+first-misfit ts k p (bad j q) n at h loc = absurd (n (subst Own (at .0) h))
 
 stopped : (u : Tokens) (k p : ℕ) → Lexed u → StopsA IsAd adR u k p → Refusal u k p
-stopped u k p h s = record {
-  before = s .those;
-  rest = s .rest;
-  follows = s .follows;
-  at = s .at;
-  viable = (s .more .more, s .more .tree, s .more .sentence);
-  first = λ e. first-misfit (s .those) p (s .rest) (subst (λ (j : ℕ). At j p (s .rest)) e (s .at)) (follows-lexed (s .follows) h) (s .local e);
-}
+stopped u k p h s =
+    let first : (Own k → ⊥) → k < 8 → Misfit (s .those) p (s .rest) = λ n l. first-misfit (s .those) k p (s .rest) n (s .at) (follows-lexed (s .follows) h) (s .local l) in
+    record {
+      before = s .those;
+      rest = s .rest;
+      follows = s .follows;
+      at = s .at;
+      viable = (s .more .more, s .more .tree, s .more .sentence);
+      first = λ e. first (λ o. true≢false (sym (subst Own e o))) (omega arith);
+      deep = λ e. first (λ o. true≢false (sym (subst Own e o))) (omega arith);
+    }
 
 -- EVERY REFUSAL IS AT THE FIRST TOKEN THAT BREAKS A RULE: the tokens in front of its place can become an ad; and a refusal 4, 'token
 -- does not fit the grammar, or text ends early', is at the first token that continues no ad, or at the end of a text whose tokens
--- can become an ad and are none
+-- can become an ad and are none; so is a refusal 6, 'level 65'
 pub refusal : (s : List ℕ) (k p : ℕ) → parse s ≡ denied k p → Refusal (tokens s) k p
 unfolding parse
 refusal s k p e =
     let h : AllA (StopsA IsAd adR (tokens s)) (denied k p) = subst (AllA (StopsA IsAd adR (tokens s))) e (ad-ends limits (tokens s)) in
     let n = refusals s k p e in
     stopped (tokens s) k p (tokens-lexed s) (h (omega (arith, n .low)))
+
+numberOf : Answer → ℕ
+numberOf (accepted a) = 0
+numberOf (denied k p) = k
+
+-- the same of a text within its bound; longer ones are refused by their length, with 2
+pub read-refusal : (s : List ℕ) (k p : ℕ) → read s ≡ denied k p → 3 ≤ k → Refusal (tokens s) k p
+unfolding read numberOf
+read-refusal s k p =
+    on-pick (λ (x : Answer). x ≡ denied k p → 3 ≤ k → Refusal (tokens s) k p) (ltb textBytes (length s)) _ _
+    (λ _ e h. let i : 2 ≡ k = ap numberOf e in absurd (omega arith))
+    (λ _ e h. refusal s k p e)

@@ -5,7 +5,7 @@ use native.Mathlib.Omega.{arith}
 use mathlib.Core.Path.{_≡_, refl, sym, _∙_, ap, subst}
 use mathlib.Core.List.{List, [], _∷_, _++_, append-assoc, append-nil}
 use lib.Dec.{leb, eqb}
-use borrow.Author.Tests.{leb-false, eqb-true}
+use borrow.Author.Tests.{leb-true, leb-false, eqb-true}
 use Rattle.syntax.specs.Bounds.{maxLevel}
 use Rattle.syntax.specs.Tree.{Literal, undefined, Expr, literal, unary, binary, conditional}
 use Rattle.syntax.specs.Token.{Token, word, constant, operator, symbol, Tokens, next, end, bad}
@@ -46,8 +46,8 @@ module _ (P Q : Expr → Tokens → Type 0) (S R : ℕ → ℕ → Type 0) where
   on-all (refused k p) h f g = λ l. g k p (h l)
 
 module _ (Q : Expr → Tokens → Type 0) (R : ℕ → ℕ → Type 0) where
-  pub on-level : (d p : ℕ) (go : Unit {0} → Parsed) → R 6 p → (d < maxLevel → All Q R (go tt)) → All Q R (level d p go)
-  on-level d p go r f = on-pick (All Q R) (leb maxLevel d) _ go (λ _ l. r) (λ b. f (leb-false maxLevel d b))
+  pub on-level : (d p : ℕ) (go : Unit {0} → Parsed) → (maxLevel ≤ d → R 6 p) → (d < maxLevel → All Q R (go tt)) → All Q R (level d p go)
+  on-level d p go r f = on-pick (All Q R) (leb maxLevel d) _ go (λ b l. r (leb-true maxLevel d b)) (λ b. f (leb-false maxLevel d b))
 
   pub on-room : (L : Limits) (c p : ℕ) (go : Unit {0} → Parsed) → R 9 p → All Q R (go tt) → All Q R (room L c p go)
   on-room L c p go r f = on-pick (All Q R) (leb (L .most-nodes) c) _ go (λ _ l. r) (λ _. f)
@@ -184,14 +184,15 @@ pub record Got (R : Run) (b d : ℕ) (xs : List Token) (u : Tokens) (e : Expr) (
   pub reads : Reads b d (xs ++ those) e
   pub local : Local R those (done e) v
 
--- behind the tokens xs, those tokens can become an expression with xs; a refusal 4 at the rest is given again
+-- behind the tokens xs, those tokens can become an expression with xs; a refusal at the rest is given again, unless it counts over the
+-- whole ad (8 and 9)
 pub record Stops (R : Run) (b d : ℕ) (xs : List Token) (u : Tokens) (k p : ℕ) : Type 0 where
   pub those : List Token
   pub rest : Tokens
   pub follows : Follows u those rest
   pub at : At k p rest
   pub more : Extends b d (xs ++ those)
-  pub local : k ≡ 4 → Local R those stuck rest
+  pub local : k < 8 → Local R those stuck rest
 
 module _ (R S : Run) (ys xs : List Token) (u v : Tokens) (f : Follows u xs v) where
   -- behind xs the reader S goes on with the same expression
@@ -224,6 +225,10 @@ module _ (R S : Run) (ys xs : List Token) (u v : Tokens) (f : Follows u xs v) wh
     local = λ h. through stuck R S xs (g .those) v (g .rest) pass (g .follows) (g .local h);
   }
 
--- a refusal at the first token, whose number is not 4
-pub stop-first : (R : Run) (b d : ℕ) (ys : List Token) (u : Tokens) (k p : ℕ) → (k ≡ 4 → ⊥) → At k p u → Extends b d ys → Stops R b d ys u k p
-stop-first R b d ys u k p h at x = record { those = []; rest = u; follows = none; at = at; more = subst (Extends b d) (sym (append-nil ys)) x; local = λ e. absurd (h e) }
+-- a refusal at the first token
+pub stop-first : (R : Run) (b d : ℕ) (ys : List Token) (u : Tokens) (k p : ℕ) → At k p u → Extends b d ys → (k < 8 → Local R [] stuck u) → Stops R b d ys u k p
+stop-first R b d ys u k p at x loc = record { those = []; rest = u; follows = none; at = at; more = subst (Extends b d) (sym (append-nil ys)) x; local = loc }
+
+-- '1,025th node'
+pub stop-full : (R : Run) (b d : ℕ) (ys : List Token) (u : Tokens) (p : ℕ) → At 9 p u → Extends b d ys → Stops R b d ys u 9 p
+stop-full R b d ys u p at x = stop-first R b d ys u 9 p at x (λ h. absurd (omega arith))
