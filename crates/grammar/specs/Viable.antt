@@ -1,8 +1,8 @@
 -- What a refusal says of the tokens in front of its place. 'the first token that breaks a rule decides, its first byte is the place,
 -- for a 4 where text ends early the text's length'. Assumes nothing.
-use Prim.Native.Nat.{ℕ}
+use Prim.Native.Nat.{ℕ, _≤_}
 use mathlib.Core.Path.{_≡_}
-use mathlib.Core.List.{List, _∷_, _++_}
+use mathlib.Core.List.{List, [], _∷_, _++_}
 use Rattle.syntax.specs.Tree.{Ad}
 use Rattle.syntax.specs.Token.{Token, Tokens, next, end, bad}
 use Rattle.syntax.specs.Grammar.{IsAd, Follows}
@@ -25,6 +25,12 @@ Misfit ts p (next q t u) = (q ≡ p) × ((us : List Token) (a : Ad) → IsAd (ts
 Misfit ts p (end n) = (n ≡ p) × ((a : Ad) → IsAd ts a → ⊥)
 Misfit ts p (bad k q) = ⊥
 
+-- a token stands at p behind the tokens ts, and more tokens make an ad of ts and it
+abbrev pub Fits : List Token → ℕ → Tokens → Type 0
+Fits ts p (next q t u) = (q ≡ p) × Viable (ts ++ t ∷ [])
+Fits ts p (end n) = ⊥
+Fits ts p (bad k q) = ⊥
+
 -- A refusal k at the place p: `before` are the tokens in front of it, and `rest` is what stands there. More tokens make an ad of
 -- `before`, so that none of them breaks a rule of the grammar; and a refusal 4 or 6 is at the first that continues no ad
 pub record Refusal (u : Tokens) (k p : ℕ) : Type 0 where
@@ -36,3 +42,5 @@ pub record Refusal (u : Tokens) (k p : ℕ) : Type 0 where
   pub first : k ≡ 4 → Misfit before p rest
   -- 'level 65': levels are part of the grammar
   pub deep : k ≡ 6 → Misfit before p rest
+  -- 'At one token the order is .. 4, 6, 8, 9': what counts over the whole ad is refused at a token that fits the grammar
+  pub counted : 8 ≤ k → Fits before p rest

@@ -16,7 +16,7 @@ use Rattle.syntax.specs.Laws.Complete.{follows-split}
 use Rattle.syntax.specs.declared.Symbol.the-variants.{OpenBracket, CloseBracket, Semicolon, Assign}
 use Rattle.grammar.specs.Viable.{At}
 use Rattle.grammar.specs.Laws.Alike.{Alike, alike-next, alike-bad, alike-front, InFront, front-alike, Unlike, NoWord, done, stuck, Meets}
-use Rattle.grammar.specs.Laws.Stops.{All, Step, step-of, Extends, undefined-reads, Got, Stops}
+use Rattle.grammar.specs.Laws.Stops.{InToken, in-token, step-in, Fit, All, Step, step-of, Extends, undefined-reads, Got, Stops}
 use Rattle.grammar.specs.Laws.Expressions.{conditionalR, conditional-ends}
 
 -- ---- the second run
@@ -91,12 +91,13 @@ pub record StopsA (T : List Token → Ad → Type 0) (R : RunA) (u : Tokens) (k 
   pub at : At k p rest
   pub more : ExtendsA T those
   pub local : k < 8 → LocalA R those rest
+  pub fits : 8 ≤ k → InToken (λ t. ExtendsA T (those ++ t ∷ [])) rest
 
 module _ (R : ℕ → ℕ → Type 0) where
-  misfit-ends : (u : Tokens) → ((k p : ℕ) → At k p u → R k p) → AllA R (misfit denied u)
-  misfit-ends (next p t u) f = λ l. f 4 p refl
-  misfit-ends (end n) f = λ l. f 4 n refl
-  misfit-ends (bad k p) f = λ l. f k p (refl, refl)
+  misfit-ends : (u : Tokens) → ((k p : ℕ) → At k p u → Fit k u → R k p) → AllA R (misfit denied u)
+  misfit-ends (next p t u) f = λ l. f 4 p refl (λ P h. absurd (omega arith))
+  misfit-ends (end n) f = λ l. f 4 n refl (λ P h. absurd (omega arith))
+  misfit-ends (bad k p) f = λ l. f k p (refl, refl) (λ P h. tt)
 
   token-ends : (x : Token) → 1 ≤ codeOf x → (u : Tokens) (then : ℕ → Tokens → Answer) (otherwise : Unit {0} → Answer) →
       ((p : ℕ) (v : Tokens) → Step u p x v → AllA R (then p v)) → (InFront (Unlike x) u → AllA R (otherwise tt)) → AllA R (onToken x u then otherwise)
@@ -107,7 +108,7 @@ module _ (R : ℕ → ℕ → Type 0) where
   token-ends x hx (end n) then otherwise f g = g tt
   token-ends x hx (bad k p) then otherwise f g = g tt
 
-  want-ends : (x : Token) → 1 ≤ codeOf x → (u : Tokens) (go : Tokens → Answer) → ((p : ℕ) (v : Tokens) → Step u p x v → AllA R (go v)) → (InFront (Unlike x) u → (k p : ℕ) → At k p u → R k p) → AllA R (wantA x u go)
+  want-ends : (x : Token) → 1 ≤ codeOf x → (u : Tokens) (go : Tokens → Answer) → ((p : ℕ) (v : Tokens) → Step u p x v → AllA R (go v)) → (InFront (Unlike x) u → (k p : ℕ) → At k p u → Fit k u → R k p) → AllA R (wantA x u go)
   want-ends x hx u go f g = token-ends x hx u _ _ f (λ e. misfit-ends u (g e))
 
   word-ends : (u : Tokens) (then : ℕ → List ℕ → Tokens → Answer) (otherwise : Unit {0} → Answer) →
@@ -139,6 +140,7 @@ end-ends T R u (next p t v) a h s pass = λ l. record {
   at = refl;
   more = record { more = []; tree = []; sentence = h };
   local = λ i K f w y b c g al. pass K f w y b c g (next-denied b al);
+  fits = λ i. absurd (omega arith);
 }
 end-ends T R u (end n) a h s pass = tt
 end-ends T R u (bad k p) a h s pass = λ l. record {
@@ -148,6 +150,7 @@ end-ends T R u (bad k p) a h s pass = λ l. record {
   at = (refl, refl);
   more = record { more = []; tree = []; sentence = h };
   local = λ i K f w y b c g al. pass K f w y b c g (bad-denied b al);
+  fits = λ i. tt;
 }
 
 -- ---- the readers
@@ -218,7 +221,10 @@ ad-open : (z : Tokens) (k p : ℕ) (s : StopsA Closes definitionsR z k p) → k 
 unfolding adAt
 ad-open z k p s h K f u y a c (some {u = v} g) al = s .local h K (enough v) v y [] 0 g al
 
--- a definition whose expression is begun, and one with more behind it
+-- a definition of which the name is read, one whose expression is begun, and one with more behind it
+named : (n : List ℕ) → ExtendsA Closes (word n ∷ [])
+named n = record { more = symbol Assign ∷ constant undefined ∷ symbol CloseBracket ∷ []; tree = record { name = n; expression = literal undefined } ∷ []; sentence = one-more (undefined-reads 8 0 0 refl) behind-last }
+
 inside : (n : List ℕ) (ts : List Token) → Extends 0 0 ts → ExtendsA Closes (word n ∷ symbol Assign ∷ ts)
 inside n ts x = record {
   more = x .more ++ symbol CloseBracket ∷ [];
@@ -233,6 +239,12 @@ behind-it n e ts us r x = record {
   sentence = subst (λ (l : List Token). Closes (word n ∷ symbol Assign ∷ l) (record { name = n; expression = e } ∷ x .tree)) (sym (append-assoc ts us (x .more))) (one-more r (x .sentence));
 }
 
+behind-closes : (ts : List Token) → ExtendsA Closes ts → ExtendsA Behind (symbol Semicolon ∷ ts)
+behind-closes ts x = record { more = x .more; tree = x .tree; sentence = behind-more (x .sentence) }
+
+ad-closes : (ts : List Token) → ExtendsA Closes ts → ExtendsA IsAd (symbol OpenBracket ∷ ts)
+ad-closes ts x = record { more = x .more; tree = x .tree; sentence = closes-ad (x .sentence) }
+
 module _ (L : Limits) where
   mutual
     unfolding definitionsAt
@@ -245,8 +257,8 @@ module _ (L : Limits) where
         (λ p v st. end-ends Closes definitionsR u v a closes (st .step) definitions-close)
         (λ i. word-ends R u _ _
         (λ p n v st. admit-ends R L n p a _
-        (record { those = []; rest = u; follows = none; at = st .at 8; more = closing; local = λ h. absurd (omega arith) })
-        (record { those = []; rest = u; follows = none; at = st .at 9; more = closing; local = λ h. absurd (omega arith) })
+        (record { those = []; rest = u; follows = none; at = st .at 8; more = closing; local = λ h. absurd (omega arith); fits = λ h. step-in (λ t. ExtendsA Closes (t ∷ [])) (st .step) (named n) })
+        (record { those = []; rest = u; follows = none; at = st .at 9; more = closing; local = λ h. absurd (omega arith); fits = λ h. step-in (λ t. ExtendsA Closes (t ∷ [])) (st .step) (named n) })
         (want-ends R (symbol Assign) (symbol-coded Assign) v _
         (λ q x st′. after-ends R (Got (conditionalR 0) 0 0 [] x) (Stops (conditionalR 0) 0 0 [] x) (conditionalAt L (enough x) x 0 c) _ (conditional-ends L (enough x) x 0 c)
         (λ k r s. record {
@@ -256,6 +268,7 @@ module _ (L : Limits) where
           at = s .at;
           more = inside n (s .those) (s .more);
           local = definitions-stuck n x k r s;
+          fits = λ h. in-token _ _ (s .rest) (λ t. inside n (s .those ++ t ∷ [])) (s .fits h);
         })
         (λ e z g. let D : Ad = a ++ record { name = n; expression = e } ∷ [] in
         all-ends R (StopsA Behind behindR z) (behindAt L f z D (c + size e)) (behind-ends f z D (c + size e))
@@ -266,16 +279,18 @@ module _ (L : Limits) where
           at = s .at;
           more = behind-it n e (g .those) (s .those) (g .reads) (s .more);
           local = definitions-behind n x z e g k r s;
+          fits = λ h. in-token _ _ (s .rest) (λ t y. subst (λ (l : List Token). ExtendsA Closes (word n ∷ symbol Assign ∷ l)) (sym (append-assoc (g .those) (s .those) (t ∷ []))) (behind-it n e (g .those) (s .those ++ t ∷ []) (g .reads) y)) (s .fits h);
         })))
-        (λ j k r at. record {
+        (λ j k r at fit. record {
           those = word n ∷ [];
           rest = v;
           follows = st .step;
           at = at;
-          more = record { more = symbol Assign ∷ constant undefined ∷ symbol CloseBracket ∷ []; tree = record { name = n; expression = literal undefined } ∷ []; sentence = one-more (undefined-reads 8 0 0 refl) behind-last };
+          more = named n;
           local = λ h. definitions-assign n v j;
+          fits = fit _;
         })))
-        (λ j. misfit-ends R u (λ k p at. record { those = []; rest = u; follows = none; at = at; more = closing; local = λ h. definitions-none u i j })))
+        (λ j. misfit-ends R u (λ k p at fit. record { those = []; rest = u; follows = none; at = at; more = closing; local = λ h. definitions-none u i j; fits = fit _ })))
 
     behind-ends : (f : ℕ) (u : Tokens) (a : Ad) (c : ℕ) → AllA (StopsA Behind behindR u) (behindAt L f u a c)
     behind-ends zero u a c = λ l. absurd (omega arith)
@@ -288,12 +303,13 @@ module _ (L : Limits) where
           rest = s .rest;
           follows = follows-append (st .step) (s .follows);
           at = s .at;
-          more = record { more = s .more .more; tree = s .more .tree; sentence = behind-more (s .more .sentence) };
+          more = behind-closes (s .those) (s .more);
           local = behind-semicolon v k r s;
+          fits = λ h. in-token _ _ (s .rest) (λ t. behind-closes (s .those ++ t ∷ [])) (s .fits h);
         }))
         (λ i. token-ends R (symbol CloseBracket) (symbol-coded CloseBracket) u _ _
         (λ p v st. end-ends Behind behindR u v a behind-last (st .step) behind-close)
-        (λ j. misfit-ends R u (λ k p at. record { those = []; rest = u; follows = none; at = at; more = record { more = symbol CloseBracket ∷ []; tree = []; sentence = behind-last }; local = λ h. behind-none u i j })))
+        (λ j. misfit-ends R u (λ k p at fit. record { those = []; rest = u; follows = none; at = at; more = record { more = symbol CloseBracket ∷ []; tree = []; sentence = behind-last }; local = λ h. behind-none u i j; fits = fit _ })))
 
   -- WHERE THE READER OF ADS STOPS: the tokens in front can become an ad, and a refusal below 8 comes of these tokens and the next alone
   pub ad-ends : (u : Tokens) → AllA (StopsA IsAd adR u) (adAt L u)
@@ -307,7 +323,8 @@ module _ (L : Limits) where
         rest = s .rest;
         follows = follows-append (st .step) (s .follows);
         at = s .at;
-        more = record { more = s .more .more; tree = s .more .tree; sentence = closes-ad (s .more .sentence) };
+        more = ad-closes (s .those) (s .more);
         local = ad-open v k r s;
+        fits = λ h. in-token _ _ (s .rest) (λ t. ad-closes (s .those ++ t ∷ [])) (s .fits h);
       }))
-      (λ i k p at. record { those = []; rest = u; follows = none; at = at; more = record { more = symbol OpenBracket ∷ symbol CloseBracket ∷ []; tree = []; sentence = ad-empty }; local = λ h. ad-none u i })
+      (λ i k p at fit. record { those = []; rest = u; follows = none; at = at; more = record { more = symbol OpenBracket ∷ symbol CloseBracket ∷ []; tree = []; sentence = ad-empty }; local = λ h. ad-none u i; fits = fit _ })

@@ -17,9 +17,8 @@ use Rattle.syntax.specs.Laws.Complete.{follows-split}
 use Rattle.syntax.specs.declared.Binary.{Binary}
 use Rattle.syntax.specs.declared.Unary.{Unary}
 use Rattle.syntax.specs.declared.Symbol.the-variants.{Question, Colon, OpenParenthesis, CloseParenthesis, Point, Other}
-use Rattle.grammar.specs.Viable.{At}
 use Rattle.grammar.specs.Laws.Alike.{alike-step, Meets, level-deep, InFront, front-alike, Unlike, NoUnary, NoBinary, NoWord, NoLiteral, Outcome, done, stuck, after-stuck, after-done, level-meets, room-meets, misfit-meets, token-meets, want-meets, unary-meets, binary-meets, unlike-meets, no-want-meets, no-unary-meets, no-binary-meets, no-word-meets, no-literal-meets, Run, Local, Passes, through}
-use Rattle.grammar.specs.Laws.Stops.{All, on-after, on-all, on-level, on-room, on-misfit, on-token, on-want, on-word, on-literal, on-binary, on-unary, Extends, extends-none, extends-read, extends-tighter, extends-binary, extends-unary, extends-parentheses, extends-first, extends-second, Got, Stops, join-got, join-stops, wrap-stops, stop-first, stop-full}
+use Rattle.grammar.specs.Laws.Stops.{All, Step, on-after, on-all, on-level, on-room, on-misfit, on-token, on-want, on-word, on-literal, on-binary, on-unary, Extends, extends-none, extends-read, extends-tighter, extends-binary, extends-unary, extends-parentheses, extends-first, extends-second, Got, Stops, join-got, join-stops, wrap-stops, stop-deep, stop-full}
 
 -- ---- the readers, and what is left of them behind a part that was read
 
@@ -250,7 +249,7 @@ module _ (L : Limits) where
         reads = subst (λ (l : List Token). Reads 0 d l (conditional e a b)) (sym (append-assoc xs (symbol Question ∷ ts) (symbol Colon ∷ g .those))) (reads-conditional hd r s (g .reads));
         local = colon-done d e a b (g .those) y (g .local);
       }))
-      (λ i k p at. record { those = []; rest = w; follows = none; at = at; more = subst (Extends 0 d) (sym (append-nil ys)) (extends-first hd r (extends-read s)); local = λ _. colon-none d e a w i })
+      (λ i k p at fit. record { those = []; rest = w; follows = none; at = at; more = subst (Extends 0 d) (sym (append-nil ys)) (extends-first hd r (extends-read s)); local = λ _. colon-none d e a w i; fits = fit _ })
 
   point-ends : (f d c : ℕ) (w : Tokens) → Ends pointR 8 d (symbol Other ∷ []) w (pointR L f w c)
   point-ends f d c w =
@@ -260,15 +259,15 @@ module _ (L : Limits) where
       on-want Q R (symbol Point) (symbol-coded Point) w _
       (λ p x st. on-word Q R x _ _
       (λ q n y st′. record { those = symbol Point ∷ word n ∷ []; follows = follows-append (st .step) (st′ .step); reads = reads-other; local = point-word n y })
-      (λ i. on-misfit Q R x (λ k p′ at. record { those = symbol Point ∷ []; rest = x; follows = st .step; at = at; more = record { more = word someName ∷ []; tree = reference other someName; reads = reads-other }; local = λ _. point-no-word x i })))
-      (λ i k p at. record { those = []; rest = w; follows = none; at = at; more = record { more = symbol Point ∷ word someName ∷ []; tree = reference other someName; reads = reads-other }; local = λ _. point-none w i })
+      (λ i. on-misfit Q R x (λ k p′ at fit. record { those = symbol Point ∷ []; rest = x; follows = st .step; at = at; more = record { more = word someName ∷ []; tree = reference other someName; reads = reads-other }; local = λ _. point-no-word x i; fits = fit _ })))
+      (λ i k p at fit. record { those = []; rest = w; follows = none; at = at; more = record { more = symbol Point ∷ word someName ∷ []; tree = reference other someName; reads = reads-other }; local = λ _. point-none w i; fits = fit _ })
 
   close-ends : (f d c : ℕ) (ts : List Token) (e : Expr) (w : Tokens) → d < maxLevel → Reads 0 (d + 1) ts e → Ends (closeR e) 8 d (symbol OpenParenthesis ∷ ts) w (closeR e L f w c)
   close-ends f d c ts e w hd r =
       let ys : List Token = symbol OpenParenthesis ∷ ts in
       on-want (Got (closeR e) 8 d ys w) (Stops (closeR e) 8 d ys w) (symbol CloseParenthesis) (symbol-coded CloseParenthesis) w _
       (λ p x st. record { those = symbol CloseParenthesis ∷ []; follows = st .step; reads = reads-parentheses hd r; local = close-done e x })
-      (λ i k p at. record { those = []; rest = w; follows = none; at = at; more = subst (Extends 8 d) (sym (append-nil ys)) (extends-parentheses hd (extends-read r)); local = λ _. close-none e w i })
+      (λ i k p at fit. record { those = []; rest = w; follows = none; at = at; more = subst (Extends 8 d) (sym (append-nil ys)) (extends-parentheses hd (extends-read r)); local = λ _. close-none e w i; fits = fit _ })
 
   mutual
     unfolding conditionalAt
@@ -291,8 +290,8 @@ module _ (L : Limits) where
         let S : Run = conditionalR (d + 1) in
         let here : Extends 0 d xs = extends-tighter (omega arith) (extends-read r) in
         on-token (Got R 0 d xs u) (Stops R 0 d xs u) (symbol Question) (symbol-coded Question) u _ _
-        (λ p v st. on-level (Got R 0 d xs u) (Stops R 0 d xs u) d p _ (λ deep. stop-first R 0 d xs u 6 p (st .at 6) here (λ _. arms-deep d e u v deep (st .step))) λ hd.
-        on-room (Got R 0 d xs u) (Stops R 0 d xs u) L c p _ (stop-full R 0 d xs u p (st .at 9) here)
+        (λ p v st. on-level (Got R 0 d xs u) (Stops R 0 d xs u) d p _ (λ deep. stop-deep R 0 d xs u p (st .at 6) here (arms-deep d e u v deep (st .step))) λ hd.
+        on-room (Got R 0 d xs u) (Stops R 0 d xs u) L c p _ (stop-full R 0 d xs u v p (symbol Question) st here (extends-first hd r (extends-none (omega arith))))
         (on-after (Got S 0 (d + 1) [] v) (Got R 0 d xs u) (Stops S 0 (d + 1) [] v) (Stops R 0 d xs u) (conditionalAt L f v (d + 1) (c + 1)) _ (conditional-ends f v (d + 1) (c + 1))
         (wrap-stops R S xs (symbol Question ∷ []) u v (st .step) 0 d 0 (d + 1) (λ ts x. extends-first hd r x) (arms-first d e v))
         (λ a w g. let T : Run = colonR d e a in
@@ -327,7 +326,7 @@ module _ (L : Limits) where
         let R : Run = restR b d e in
         let S : Run = binaryR (b + 1) d in
         on-binary (Got R b d xs u) (Stops R b d xs u) b u _ _
-        (λ j p v i st. on-room (Got R b d xs u) (Stops R b d xs u) L c p _ (stop-full R b d xs u p (st .at 9) (extends-read r))
+        (λ j p v i st. on-room (Got R b d xs u) (Stops R b d xs u) L c p _ (stop-full R b d xs u v p (operator j) st (extends-read r) (extends-binary j i r (extends-none (omega arith))))
         (on-after (Got S (b + 1) d [] v) (Got R b d xs u) (Stops S (b + 1) d [] v) (Stops R b d xs u) (binaryAt L f v (b + 1) d (c + 1)) _ (binary-ends f v (b + 1) d (c + 1) (omega arith))
         (wrap-stops R S xs (operator j ∷ []) u v (st .step) b d (b + 1) d (λ ts x. extends-binary j i r x) (rest-inner b d e j v i))
         (λ a w g. let T : Run = restR b d (binary j e a) in
@@ -344,8 +343,8 @@ module _ (L : Limits) where
         let R : Run = unaryR d in
         let S : Run = unaryR (d + 1) in
         on-unary (Got R 7 d [] u) (Stops R 7 d [] u) u (behind-unary L f d c) (λ _. primaryAt L f u d c)
-        (λ j p v st. on-level (Got R 7 d [] u) (Stops R 7 d [] u) d p _ (λ deep. stop-first R 7 d [] u 6 p (st .at 6) (extends-none (omega arith)) (λ _. unary-deep d j u v deep (st .step))) λ hd.
-        on-room (Got R 7 d [] u) (Stops R 7 d [] u) L c p _ (stop-full R 7 d [] u p (st .at 9) (extends-none (omega arith)))
+        (λ j p v st. on-level (Got R 7 d [] u) (Stops R 7 d [] u) d p _ (λ deep. stop-deep R 7 d [] u p (st .at 6) (extends-none (omega arith)) (unary-deep d j u v deep (st .step))) λ hd.
+        on-room (Got R 7 d [] u) (Stops R 7 d [] u) L c p _ (stop-full R 7 d [] u v p (unaryToken j) st (extends-none (omega arith)) (extends-unary hd j (extends-none (omega arith))))
         (on-after (Got S 7 (d + 1) [] v) (Got R 7 d [] u) (Stops S 7 (d + 1) [] v) (Stops R 7 d [] u) (unaryAt L f v (d + 1) (c + 1)) _ (unary-ends f v (d + 1) (c + 1))
         (wrap-stops R S [] (unaryToken j ∷ []) u v (st .step) 7 d 7 (d + 1) (λ ts x. extends-unary hd j x) (unary-inner d j v))
         (λ a w g. record { those = unaryToken j ∷ g .those; follows = follows-append (st .step) (g .follows); reads = reads-unary hd (g .reads); local = unary-done d j a (g .those) w (g .local) })))
@@ -358,17 +357,17 @@ module _ (L : Limits) where
     primary-ends (suc f) u d c =
         let R : Run = primaryR d in
         let S : Run = conditionalR (d + 1) in
-        let full : (p : ℕ) → ((k : ℕ) → At k p u) → Stops R 8 d [] u 9 p = λ p at. stop-full R 8 d [] u p (at 9) (extends-none (omega arith)) in
+        let full : (p : ℕ) (x : Token) (v : Tokens) → Step u p x v → Extends 8 d (x ∷ []) → Stops R 8 d [] u 9 p = λ p x v st y. stop-full R 8 d [] u v p x st (extends-none (omega arith)) y in
         on-literal (Got R 8 d [] u) (Stops R 8 d [] u) u _ _
-        (λ p l v st. on-room (Got R 8 d [] u) (Stops R 8 d [] u) L c p _ (full p (st .at)) (record { those = constant l ∷ []; follows = st .step; reads = reads-literal; local = primary-literal d l v }))
+        (λ p l v st. on-room (Got R 8 d [] u) (Stops R 8 d [] u) L c p _ (full p (constant l) v st (extends-read reads-literal)) (record { those = constant l ∷ []; follows = st .step; reads = reads-literal; local = primary-literal d l v }))
         (λ no-literal. on-word (Got R 8 d [] u) (Stops R 8 d [] u) u _ _
-        (λ p n v st. on-room (Got R 8 d [] u) (Stops R 8 d [] u) L c p _ (full p (st .at)) (record { those = word n ∷ []; follows = st .step; reads = reads-own; local = primary-own d n v }))
+        (λ p n v st. on-room (Got R 8 d [] u) (Stops R 8 d [] u) L c p _ (full p (word n) v st (extends-read reads-own)) (record { those = word n ∷ []; follows = st .step; reads = reads-own; local = primary-own d n v }))
         (λ no-word. on-token (Got R 8 d [] u) (Stops R 8 d [] u) (symbol Other) (symbol-coded Other) u _ _
-        (λ p v st. on-room (Got R 8 d [] u) (Stops R 8 d [] u) L c p _ (full p (st .at))
+        (λ p v st. on-room (Got R 8 d [] u) (Stops R 8 d [] u) L c p _ (full p (symbol Other) v st (record { more = symbol Point ∷ word someName ∷ []; tree = reference other someName; reads = reads-other }))
         (on-all (Got pointR 8 d (symbol Other ∷ []) v) (Got R 8 d [] u) (Stops pointR 8 d (symbol Other ∷ []) v) (Stops R 8 d [] u) (pointR L f v c) (point-ends f d c v)
         (join-got R pointR [] (symbol Other ∷ []) u v (st .step) 8 d (λ o. primary-other o d v)) (join-stops R pointR [] (symbol Other ∷ []) u v (st .step) 8 d (λ o. primary-other o d v))))
         (λ no-other. on-token (Got R 8 d [] u) (Stops R 8 d [] u) (symbol OpenParenthesis) (symbol-coded OpenParenthesis) u _ _
-        (λ p v st. on-level (Got R 8 d [] u) (Stops R 8 d [] u) d p _ (λ deep. stop-first R 8 d [] u 6 p (st .at 6) (extends-none (omega arith)) (λ _. primary-deep d u v deep (st .step))) λ hd.
+        (λ p v st. on-level (Got R 8 d [] u) (Stops R 8 d [] u) d p _ (λ deep. stop-deep R 8 d [] u p (st .at 6) (extends-none (omega arith)) (primary-deep d u v deep (st .step))) λ hd.
         on-after (Got S 0 (d + 1) [] v) (Got R 8 d [] u) (Stops S 0 (d + 1) [] v) (Stops R 8 d [] u) (conditionalAt L f v (d + 1) c) _ (conditional-ends f v (d + 1) c)
         (wrap-stops R S [] (symbol OpenParenthesis ∷ []) u v (st .step) 8 d 0 (d + 1) (λ ts x. extends-parentheses hd x) (primary-inner d v))
         (λ e w g. let T : Run = closeR e in
@@ -377,4 +376,4 @@ module _ (L : Limits) where
         let fol : Follows u ys w = follows-append (st .step) (g .follows) in
         on-all (Got T 8 d ys w) (Got R 8 d [] u) (Stops T 8 d ys w) (Stops R 8 d [] u) (closeR e L f w c) (close-ends f d c (g .those) e w hd (g .reads))
         (join-got R T [] ys u w fol 8 d pass) (join-stops R T [] ys u w fol 8 d pass)))
-        (λ no-open. on-misfit (Got R 8 d [] u) (Stops R 8 d [] u) u (λ k p at. record { those = []; rest = u; follows = none; at = at; more = extends-none (omega arith); local = λ _. primary-none d u no-literal no-word no-other no-open })))))
+        (λ no-open. on-misfit (Got R 8 d [] u) (Stops R 8 d [] u) u (λ k p at fit. record { those = []; rest = u; follows = none; at = at; more = extends-none (omega arith); local = λ _. primary-none d u no-literal no-word no-other no-open; fits = fit _ })))))

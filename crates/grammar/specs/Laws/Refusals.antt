@@ -6,7 +6,8 @@ use mathlib.Core.Path.{_≡_, refl, sym, ap, subst}
 use mathlib.Core.Bool.{false, true≢false}
 use mathlib.Core.List.{List, [], _∷_, _++_, append-nil}
 use lib.ListN.{length}
-use lib.Dec.{ltb}
+use lib.Dec.{ltb, eqb}
+use borrow.Author.Tests.{ne-eqb}
 use Rattle.syntax.specs.Bounds.{textBytes}
 use Rattle.syntax.specs.Tree.{Ad, nodes}
 use Rattle.syntax.specs.Token.{Token, Tokens, next, end, bad, tokens}
@@ -14,10 +15,11 @@ use Rattle.syntax.specs.Grammar.{IsAd, NewAfter, Follows, none, some}
 use Rattle.syntax.specs.Reader.{Answer, accepted, denied, Limits, limits, adAt, parse, read}
 use Rattle.syntax.specs.Laws.Codes.{on-pick}
 use Rattle.syntax.specs.Laws.Accepts.{ad-complete, refusals}
-use Rattle.grammar.specs.Viable.{At, Misfit, Refusal}
+use Rattle.grammar.specs.Viable.{At, Misfit, Fits, Refusal}
 use Rattle.grammar.specs.Laws.Tokens.{Own, Lexed, tokens-lexed, follows-lexed}
 use Rattle.grammar.specs.Laws.Alike.{Alike, alike-next, alike-end}
-use Rattle.grammar.specs.Laws.Ads.{Denied, AllA, StopsA, adR, LocalA, ad-ends}
+use Rattle.grammar.specs.Laws.Stops.{InToken}
+use Rattle.grammar.specs.Laws.Ads.{Denied, AllA, ExtendsA, StopsA, adR, LocalA, ad-ends}
 
 -- ---- tokens of no text, and an ad of any size
 
@@ -64,6 +66,20 @@ first-misfit ts k p (next q t u) n at h loc = (at, λ us a i. no-sentence ts (t 
 first-misfit ts k p (end m) n at h loc = (at, λ a i. no-sentence ts [] (end m) a loc alike-end (subst (λ (l : List Token). IsAd l a) (sym (append-nil ts)) i))
 first-misfit ts k p (bad j q) n at h loc = absurd (n (subst Own (at .0) h))
 
+fits-there : (ts : List Token) (k p : ℕ) (x : Tokens) → (Own k → ⊥) → At k p x → Lexed x → InToken (λ t. ExtendsA IsAd (ts ++ t ∷ [])) x → Fits ts p x
+unfolding Lexed
+fits-there ts k p (next q t u) n at h e = (at, (e .more, e .tree, e .sentence))
+fits-there ts k p (end m) n at h e = e
+fits-there ts k p (bad j q) n at h e = absurd (n (subst Own (at .0) h))
+
+-- the numbers of the whole ad are no token's own
+not-own : (k : ℕ) → 8 ≤ k → Own k → ⊥
+not-own k h o =
+    let e : eqb k 3 ≡ false = ne-eqb k 3 (λ i. omega arith) in
+    let e′ : eqb k 5 ≡ false = ne-eqb k 5 (λ i. omega arith) in
+    let e″ : eqb k 7 ≡ false = ne-eqb k 7 (λ i. omega arith) in
+    true≢false (sym (rw (e, e′, e″) at o))
+
 stopped : (u : Tokens) (k p : ℕ) → Lexed u → StopsA IsAd adR u k p → Refusal u k p
 stopped u k p h s =
     let first : (Own k → ⊥) → k < 8 → Misfit (s .those) p (s .rest) = λ n l. first-misfit (s .those) k p (s .rest) n (s .at) (follows-lexed (s .follows) h) (s .local l) in
@@ -75,11 +91,12 @@ stopped u k p h s =
       viable = (s .more .more, s .more .tree, s .more .sentence);
       first = λ e. first (λ o. true≢false (sym (subst Own e o))) (omega arith);
       deep = λ e. first (λ o. true≢false (sym (subst Own e o))) (omega arith);
+      counted = λ l. fits-there (s .those) k p (s .rest) (not-own k l) (s .at) (follows-lexed (s .follows) h) (s .fits l);
     }
 
 -- EVERY REFUSAL IS AT THE FIRST TOKEN THAT BREAKS A RULE: the tokens in front of its place can become an ad; and a refusal 4, 'token
 -- does not fit the grammar, or text ends early', is at the first token that continues no ad, or at the end of a text whose tokens
--- can become an ad and are none; so is a refusal 6, 'level 65'
+-- can become an ad and are none; so is a refusal 6, 'level 65'; and a refusal 8 or 9 is at a token that continues one
 pub refusal : (s : List ℕ) (k p : ℕ) → parse s ≡ denied k p → Refusal (tokens s) k p
 unfolding parse
 refusal s k p e =

@@ -36,6 +36,24 @@ pub record Step (u : Tokens) (p : ℕ) (x : Token) (v : Tokens) : Type 0 where
 pub step-of : (p : ℕ) (t : Token) (v : Tokens) → Step (next p t v) p t v
 step-of p t v = record { at = λ k. refl; step = some none }
 
+-- what holds of the token in front, which is there or is refused by itself
+abbrev pub InToken : (Token → Type 0) → Tokens → Type 0
+InToken P (next p t u) = P t
+InToken P (end n) = ⊥
+InToken P (bad k p) = Unit {0}
+
+pub in-token : (P Q : Token → Type 0) (u : Tokens) → ((t : Token) → P t → Q t) → InToken P u → InToken Q u
+in-token P Q (next p t u) f h = f t h
+in-token P Q (end n) f h = h
+in-token P Q (bad k p) f h = tt
+
+pub step-in : (P : Token → Type 0) {u v : Tokens} {x : Token} → Follows u (x ∷ []) v → P x → InToken P u
+step-in P (some f) h = h
+
+-- a refusal of the number k at u that is none of the whole ad
+abbrev pub Fit : ℕ → Tokens → Type 1
+Fit k u = (P : Token → Type 0) → 8 ≤ k → InToken P u
+
 module _ (P Q : Expr → Tokens → Type 0) (S R : ℕ → ℕ → Type 0) where
   pub on-after : (x : Parsed) (go : Expr → Tokens → Parsed) → All P S x → ((k p : ℕ) → S k p → R k p) → ((e : Expr) (u : Tokens) → P e u → All Q R (go e u)) → All Q R (after x go)
   on-after (ok e u) go h g f = f e u h
@@ -52,10 +70,10 @@ module _ (Q : Expr → Tokens → Type 0) (R : ℕ → ℕ → Type 0) where
   pub on-room : (L : Limits) (c p : ℕ) (go : Unit {0} → Parsed) → R 9 p → All Q R (go tt) → All Q R (room L c p go)
   on-room L c p go r f = on-pick (All Q R) (leb (L .most-nodes) c) _ go (λ _ l. r) (λ _. f)
 
-  pub on-misfit : (u : Tokens) → ((k p : ℕ) → At k p u → R k p) → All Q R (misfit refused u)
-  on-misfit (next p t u) f = λ l. f 4 p refl
-  on-misfit (end n) f = λ l. f 4 n refl
-  on-misfit (bad k p) f = λ l. f k p (refl, refl)
+  pub on-misfit : (u : Tokens) → ((k p : ℕ) → At k p u → Fit k u → R k p) → All Q R (misfit refused u)
+  on-misfit (next p t u) f = λ l. f 4 p refl (λ P h. absurd (omega arith))
+  on-misfit (end n) f = λ l. f 4 n refl (λ P h. absurd (omega arith))
+  on-misfit (bad k p) f = λ l. f k p (refl, refl) (λ P h. tt)
 
   pub on-token : (x : Token) → 1 ≤ codeOf x → (u : Tokens) (then : ℕ → Tokens → Parsed) (otherwise : Unit {0} → Parsed) →
       ((p : ℕ) (v : Tokens) → Step u p x v → All Q R (then p v)) → (InFront (Unlike x) u → All Q R (otherwise tt)) → All Q R (onToken x u then otherwise)
@@ -66,7 +84,7 @@ module _ (Q : Expr → Tokens → Type 0) (R : ℕ → ℕ → Type 0) where
   on-token x hx (end n) then otherwise f g = g tt
   on-token x hx (bad k p) then otherwise f g = g tt
 
-  pub on-want : (x : Token) → 1 ≤ codeOf x → (u : Tokens) (go : Tokens → Parsed) → ((p : ℕ) (v : Tokens) → Step u p x v → All Q R (go v)) → (InFront (Unlike x) u → (k p : ℕ) → At k p u → R k p) → All Q R (want x u go)
+  pub on-want : (x : Token) → 1 ≤ codeOf x → (u : Tokens) (go : Tokens → Parsed) → ((p : ℕ) (v : Tokens) → Step u p x v → All Q R (go v)) → (InFront (Unlike x) u → (k p : ℕ) → At k p u → Fit k u → R k p) → All Q R (want x u go)
   on-want x hx u go f g = on-token x hx u _ _ f (λ e. on-misfit u (g e))
 
   pub on-word : (u : Tokens) (then : ℕ → List ℕ → Tokens → Parsed) (otherwise : Unit {0} → Parsed) →
@@ -193,6 +211,8 @@ pub record Stops (R : Run) (b d : ℕ) (xs : List Token) (u : Tokens) (k p : ℕ
   pub at : At k p rest
   pub more : Extends b d (xs ++ those)
   pub local : k < 8 → Local R those stuck rest
+  -- 8 and 9 are at a token that fits
+  pub fits : 8 ≤ k → InToken (λ t. Extends b d (xs ++ (those ++ t ∷ []))) rest
 
 module _ (R S : Run) (ys xs : List Token) (u v : Tokens) (f : Follows u xs v) where
   -- behind xs the reader S goes on with the same expression
@@ -212,6 +232,7 @@ module _ (R S : Run) (ys xs : List Token) (u v : Tokens) (f : Follows u xs v) wh
     at = g .at;
     more = subst (Extends b d) (append-assoc ys xs (g .those)) (g .more);
     local = λ h. through stuck R S xs (g .those) v (g .rest) (pass stuck) (g .follows) (g .local h);
+    fits = λ h. in-token _ _ (g .rest) (λ t x. subst (λ (l : List Token). Extends b d (ys ++ l)) (sym (append-assoc xs (g .those) (t ∷ []))) (subst (Extends b d) (append-assoc ys xs (g .those ++ t ∷ [])) x)) (g .fits h);
   }
 
   -- behind xs the reader S reads an expression inside
@@ -223,12 +244,13 @@ module _ (R S : Run) (ys xs : List Token) (u v : Tokens) (f : Follows u xs v) wh
     at = g .at;
     more = grow (g .those) (g .more);
     local = λ h. through stuck R S xs (g .those) v (g .rest) pass (g .follows) (g .local h);
+    fits = λ h. in-token _ _ (g .rest) (λ t x. subst (λ (l : List Token). Extends b d (ys ++ l)) (sym (append-assoc xs (g .those) (t ∷ []))) (grow (g .those ++ t ∷ []) x)) (g .fits h);
   }
 
--- a refusal at the first token
-pub stop-first : (R : Run) (b d : ℕ) (ys : List Token) (u : Tokens) (k p : ℕ) → At k p u → Extends b d ys → (k < 8 → Local R [] stuck u) → Stops R b d ys u k p
-stop-first R b d ys u k p at x loc = record { those = []; rest = u; follows = none; at = at; more = subst (Extends b d) (sym (append-nil ys)) x; local = loc }
+-- a refusal at the first token: 'level 65'
+pub stop-deep : (R : Run) (b d : ℕ) (ys : List Token) (u : Tokens) (p : ℕ) → At 6 p u → Extends b d ys → Local R [] stuck u → Stops R b d ys u 6 p
+stop-deep R b d ys u p at x loc = record { those = []; rest = u; follows = none; at = at; more = subst (Extends b d) (sym (append-nil ys)) x; local = λ h. loc; fits = λ h. absurd (omega arith) }
 
--- '1,025th node'
-pub stop-full : (R : Run) (b d : ℕ) (ys : List Token) (u : Tokens) (p : ℕ) → At 9 p u → Extends b d ys → Stops R b d ys u 9 p
-stop-full R b d ys u p at x = stop-first R b d ys u 9 p at x (λ h. absurd (omega arith))
+-- '1,025th node', at the token x
+pub stop-full : (R : Run) (b d : ℕ) (ys : List Token) (u v : Tokens) (p : ℕ) (x : Token) → Step u p x v → Extends b d ys → Extends b d (ys ++ x ∷ []) → Stops R b d ys u 9 p
+stop-full R b d ys u v p x st e e′ = record { those = []; rest = u; follows = none; at = st .at 9; more = subst (Extends b d) (sym (append-nil ys)) e; local = λ h. absurd (omega arith); fits = λ h. step-in (λ t. Extends b d (ys ++ t ∷ [])) (st .step) e′ }
