@@ -31,7 +31,7 @@ use Rattle.valuation.specs.Laws.Transfer.{entered-part}
 use Rattle.valuation.specs.Laws.Runs.{run-ran}
 use Rattle.evaluation.specs.Evaluation.{ruleAt, seen, needed, entries, stepsWords, RunTo, AtRun}
 use Rattle.matching.specs.Matching.{isTrue, rankOf, Worth, Concluded, Counted, Match}
-use Rattle.matching.specs.Laws.Concluding.{worth-of}
+use Rattle.matching.specs.Laws.Concluding.{worth-of, roots-first, roots-second, ranks-first, ranks-second}
 use Rattle.matching.specs.declared.Outcome.{Outcome}
 use Rattle.matching.specs.declared.Outcome.the-variants.{Finished, Unfinished}
 
@@ -171,22 +171,6 @@ module _ (v b w c : List ℕ) {count len : ℕ} {ta st fr fo fl ls : List ℕ} (
     worked : length (t .order) ≤ budget → (l : List ℕ) → Each (λ y. y ∈ pairGraph v b w c .roots) l → Worth (needs (pairGraph v b w c) (raised fl)) (ruleAt v b w c) l (valueIn (map (λ y. seen (slotAt tb y)) l) 0)
     worked h l m = worth-of (slotAt tb) l (λ x k. ran-is .holds x (subst (λ (u : List ℕ). x ∈ u) (sym (take-all budget (t .order) h)) (entered-in entered x (m x k))))
 
-    roots-first : Each (λ y. y ∈ pairGraph v b w c .roots) (rootsOf false v b requirements)
-    unfolding pairGraph
-    roots-first y m = mem-left _ m
-
-    roots-second : Each (λ y. y ∈ pairGraph v b w c .roots) (rootsOf true w c requirements)
-    unfolding pairGraph
-    roots-second y m = mem-right (rootsOf false v b requirements) (mem-left _ m)
-
-    ranks-first : Each (λ y. y ∈ pairGraph v b w c .roots) (rootsOf false v b rank)
-    unfolding pairGraph
-    ranks-first y m = mem-right (rootsOf false v b requirements) (mem-right (rootsOf true w c requirements) (mem-left _ m))
-
-    ranks-second : Each (λ y. y ∈ pairGraph v b w c .roots) (rootsOf true w c rank)
-    unfolding pairGraph
-    ranks-second y m = mem-right (rootsOf false v b requirements) (mem-right (rootsOf true w c requirements) (mem-right (rootsOf false v b rank) m))
-
     steps-are : steps ≡ min budget (length (t .order))
     steps-are = run-is .counts ∙ ap (λ (n : ℕ). min budget n) (let q : length (t .order) - 0 ≡ length (t .order) = omega arith in q)
 
@@ -213,10 +197,10 @@ module _ (v b w c : List ℕ) {count len : ℕ} {ta st fr fo fl ls : List ℕ} (
             second-requirement = held true w c requirements;
             first-rank = held false v b rank;
             second-rank = held true w c rank;
-            first-required = worked k (rootsOf false v b requirements) roots-first;
-            second-required = worked k (rootsOf true w c requirements) roots-second;
-            first-ranked = worked k (rootsOf false v b rank) ranks-first;
-            second-ranked = worked k (rootsOf true w c rank) ranks-second;
+            first-required = worked k (rootsOf false v b requirements) (roots-first v b w c);
+            second-required = worked k (rootsOf true w c requirements) (roots-second v b w c);
+            first-ranked = worked k (rootsOf false v b rank) (ranks-first v b w c);
+            second-ranked = worked k (rootsOf true w c rank) (ranks-second v b w c);
             answers = e (omega arith) ∙ ap (λ (n : ℕ). Finished (isTrue (held false v b requirements) && isTrue (held true w c requirements)) (rankOf (held false v b rank)) (rankOf (held true w c rank)) n count) same;
           };
       unfinished = λ k.

@@ -1,4 +1,3 @@
 pub mod Worked
 pub mod Sizes
-pub mod Exchange
 pub mod Strict

@@ -59,12 +59,12 @@ never e = let z : _≡_ {A = ℕ} 0 1 = cc in omega arith
 
 -- ---- one ad: its links stay in the two ads
 
-root-in : (w : List ℕ) → Formed w → (y : ℕ) → y ∈ rootsFrom w 0 (definitionCount w) → y < nodeCount w
+pub root-in : (w : List ℕ) → Formed w → (y : ℕ) → y ∈ rootsFrom w 0 (definitionCount w) → y < nodeCount w
 root-in w fw = roots-each w (λ y. y < nodeCount w) 0 (definitionCount w) (λ i h. subst (λ (u : ℕ). rootAt w u < nodeCount w) (let q : i ≡ 0 + i = omega arith in q) (fw .roots-in i h))
 
 module _ (w b w′ b′ : List ℕ) where
   -- what a fact of a node's links asks: of its operands, of a definition of its own ad, of one of the other
-  links-each : (P : ℕ → List Link → Type 0) → ((i : ℕ) → P i []) →
+  pub links-each : (P : ℕ → List Link → Type 0) → ((i : ℕ) → P i []) →
       ((i : ℕ) → i < nodeCount w → refersAt w i ≡ true → P i (map inside (find w b (nameAt w b i)))) →
       ((i : ℕ) → i < nodeCount w → refersAt w i ≡ true → P i (map across (find w′ b′ (nameAt w b i)))) →
       ((i : ℕ) → i < nodeCount w → refersAt w i ≡ false → P i (map inside (operands w i))) → (i : ℕ) → P i (linksFrom w b w′ b′ i)

@@ -2,9 +2,12 @@
 use Prim.Native.Nat.{ℕ, zero, suc, _-_}
 use native.Mathlib.Omega.{arith}
 use mathlib.Core.Path.{_≡_, refl, sym, ap, _∙_, subst}
-use mathlib.Core.Logic.{_≢_}
-use mathlib.Core.List.{List, [], _∷_, map}
+use mathlib.Core.Logic.{_≢_, _⊎_, inl, inr}
+use mathlib.Core.Bool.{false, true}
+use mathlib.Core.List.{List, [], _∷_, _++_, map}
 use Rattle.graph.specs.Members.{_∈_, here, Each}
+use Rattle.graph.specs.Laws.Members.{mem-left, mem-right, mem-append}
+use Rattle.links.specs.Pair.{rootsOf, requirements, rank, pairGraph}
 use Rattle.graph.specs.Transition.{marked}
 use Rattle.values.specs.declared.Value.{Value}
 use Rattle.values.specs.declared.Value.the-variants.{Undefined}
@@ -35,3 +38,39 @@ worth-of {need} {rule} t (x ∷ xs) h = go (h x (here refl))
   where
     go : (v : Value) × Gives need rule x v × (t x ≡ Held v) → Worth need rule (x ∷ xs) (seen (t x))
     go (v, g, e) = present (subst (λ (u : Value). Gives need rule x u) (sym (ap seen e)) g)
+
+-- ---- the four roots are entered
+
+module _ (v b w c : List ℕ) where
+  pub roots-first : Each (λ y. y ∈ pairGraph v b w c .roots) (rootsOf false v b requirements)
+  unfolding pairGraph
+  roots-first y m = mem-left _ m
+
+  pub roots-second : Each (λ y. y ∈ pairGraph v b w c .roots) (rootsOf true w c requirements)
+  unfolding pairGraph
+  roots-second y m = mem-right (rootsOf false v b requirements) (mem-left _ m)
+
+  pub ranks-first : Each (λ y. y ∈ pairGraph v b w c .roots) (rootsOf false v b rank)
+  unfolding pairGraph
+  ranks-first y m = mem-right (rootsOf false v b requirements) (mem-right (rootsOf true w c requirements) (mem-left _ m))
+
+  pub ranks-second : Each (λ y. y ∈ pairGraph v b w c .roots) (rootsOf true w c rank)
+  unfolding pairGraph
+  ranks-second y m = mem-right (rootsOf false v b requirements) (mem-right (rootsOf true w c requirements) (mem-right (rootsOf false v b rank) m))
+
+  pub roots-from : (P : ℕ → Type 0) → Each P (rootsOf false v b requirements) → Each P (rootsOf true w c requirements) → Each P (rootsOf false v b rank) → Each P (rootsOf true w c rank) →
+      Each P (pairGraph v b w c .roots)
+  unfolding pairGraph
+  roots-from P h i j k y m = one (mem-append (rootsOf false v b requirements) m)
+    where
+      three : (y ∈ rootsOf false v b rank) ⊎ (y ∈ rootsOf true w c rank) → P y
+      three (inl n) = j y n
+      three (inr n) = k y n
+
+      two : (y ∈ rootsOf true w c requirements) ⊎ (y ∈ (rootsOf false v b rank ++ rootsOf true w c rank)) → P y
+      two (inl n) = i y n
+      two (inr n) = three (mem-append (rootsOf false v b rank) n)
+
+      one : (y ∈ rootsOf false v b requirements) ⊎ (y ∈ (rootsOf true w c requirements ++ (rootsOf false v b rank ++ rootsOf true w c rank))) → P y
+      one (inl n) = h y n
+      one (inr n) = two (mem-append (rootsOf true w c requirements) n)
