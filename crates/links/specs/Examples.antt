@@ -22,18 +22,18 @@ use Rattle.links.specs.Laws.Numbering.{links-own, links-operator, ref-is
 use Rattle.links.specs.Laws.Layout.{stored-nodes, stored-definitions, stored-behind}
 
 -- 'definitions `name = expression`'
-defined-as : List ℕ → Expr → Definition
+unfoldable pub defined-as : List ℕ → Expr → Definition
 defined-as w e = record { name = w; expression = e }
 
 -- W11's ad: 'in `[a = b; b = a is undefined; d = b]`'
-w11 : Ad
+unfoldable pub w11 : Ad
 w11 =
     defined-as (bytes "a") (reference own (bytes "b"))
     ∷ defined-as (bytes "b") (binary Is (reference own (bytes "a")) (literal undefined))
     ∷ defined-as (bytes "d") (reference own (bytes "b")) ∷ []
 
 -- W11's graph, with an empty ad beside it: for 'A reference that leads, in one or more steps, back to itself is circular'
-pub w11-graph : Graph
+unfoldable pub w11-graph : Graph
 w11-graph = pairGraph (storedWords w11) (storedBytes w11) (storedWords []) (storedBytes [])
 
 -- the words of W11's ad: for 'in `[a = b; b = a is undefined; d = b]`'

@@ -31,7 +31,7 @@ use Rattle.valuation.specs.Laws.Transfer.{entered-part}
 use Rattle.valuation.specs.Laws.Runs.{run-ran}
 use Rattle.evaluation.specs.Evaluation.{ruleAt, seen, needed, entries, stepsWords, RunTo, AtRun}
 use Rattle.matching.specs.Matching.{isTrue, rankOf, Worth, Concluded, Counted, Match}
-use Rattle.matching.specs.Laws.Concluding.{worth-of, roots-first, roots-second, ranks-first, ranks-second}
+use Rattle.matching.specs.Laws.Concluding.{flags-same, worth-of, roots-first, roots-second, ranks-first, ranks-second}
 use Rattle.matching.specs.declared.Outcome.{Outcome}
 use Rattle.matching.specs.declared.Outcome.the-variants.{Finished, Unfinished}
 
@@ -75,15 +75,6 @@ suc-at : (l : List ℕ) (i : ℕ) → i < length l → getD (map suc l) i 0 ≡ 
 suc-at [] i h = absurd (let q : ⊥ = omega arith in q)
 suc-at (x ∷ l) zero h = refl
 suc-at (x ∷ l) (suc i) h = suc-at l i (let k : suc i < suc (length l) = h in omega arith)
-
-flags-same : (G : Graph) {c d : ℕ → Bool} → Flags G c → Flags G d → c ≡ d
-flags-same G {c} {d} p q = fun-ext (λ x. go x (c x) (d x) refl refl)
-  where
-    go : (x : ℕ) (a b : Bool) → c x ≡ a → d x ≡ b → a ≡ b
-    go x true true e f = refl
-    go x false false e f = refl
-    go x true false e f = sym (q x .1 (p x .0 e)) ∙ f
-    go x false true e f = sym e ∙ p x .1 (q x .0 f)
 
 module _ (v b w c : List ℕ) {count len : ℕ} {ta st fr fo fl ls : List ℕ} (f : Formed v) (g : Formed w) (t : Traversed (pairGraph v b w c) count len ta st fr fo fl ls) where
   abbrev G : Graph

@@ -1,9 +1,9 @@
 -- The value of a definition that the table holds. Assumes nothing.
 use Prim.Native.Nat.{ℕ, zero, suc, _-_}
 use native.Mathlib.Omega.{arith}
-use mathlib.Core.Path.{_≡_, refl, sym, ap, _∙_, subst}
+use mathlib.Core.Path.{_≡_, refl, sym, ap, _∙_, subst, fun-ext}
 use mathlib.Core.Logic.{_≢_, _⊎_, inl, inr}
-use mathlib.Core.Bool.{false, true}
+use mathlib.Core.Bool.{Bool, false, true}
 use mathlib.Core.List.{List, [], _∷_, _++_, map}
 use Rattle.graph.specs.Members.{_∈_, here, Each}
 use Rattle.graph.specs.Laws.Members.{mem-left, mem-right, mem-append}
@@ -14,7 +14,9 @@ use Rattle.values.specs.declared.Value.the-variants.{Undefined}
 use Rattle.slots.specs.declared.Slot.{Slot}
 use Rattle.slots.specs.declared.Slot.the-variants.{Held}
 use Rattle.nodes.specs.Nodes.{valueIn}
+use Rattle.graph.specs.Graph.{Graph, Flags}
 use Rattle.valuation.specs.Gives.{Gives}
+use Rattle.valuation.specs.Laws.Values.{gives-unique}
 use Rattle.evaluation.specs.Evaluation.{seen}
 use Rattle.matching.specs.Matching.{Worth, absent, present}
 
@@ -38,6 +40,23 @@ worth-of {need} {rule} t (x ∷ xs) h = go (h x (here refl))
   where
     go : (v : Value) × Gives need rule x v × (t x ≡ Held v) → Worth need rule (x ∷ xs) (seen (t x))
     go (v, g, e) = present (subst (λ (u : Value). Gives need rule x u) (sym (ap seen e)) g)
+
+-- ---- one of each
+
+-- the circular references are the same
+pub flags-same : (G : Graph) {c d : ℕ → Bool} → Flags G c → Flags G d → c ≡ d
+flags-same G {c} {d} p q = fun-ext (λ x. go x (c x) (d x) refl refl)
+  where
+    go : (x : ℕ) (a b : Bool) → c x ≡ a → d x ≡ b → a ≡ b
+    go x true true e f = refl
+    go x false false e f = refl
+    go x true false e f = sym (q x .1 (p x .0 e)) ∙ f
+    go x false true e f = sym e ∙ p x .1 (q x .0 f)
+
+-- a definition has one value
+pub worth-unique : {need : ℕ → List ℕ} {rule : ℕ → List Value → Value} {l : List ℕ} {u v : Value} → Worth need rule l u → Worth need rule l v → u ≡ v
+worth-unique absent absent = refl
+worth-unique {need} {rule} (present g) (present h) = gives-unique need rule g h
 
 -- ---- the four roots are entered
 
