@@ -1,0 +1,17 @@
+use Rattle.lexemes.specs.Lexeme.{inString}
+use native.Mathlib.Omega.{arith}
+use borrow.Author.Needs.{needs}
+use Rattle.lexemes.proofs.in_string.Statement.{statement}
+use Rattle.lexemes.proofs.in_string.Tie as tie
+use Rattle.lexemes.proofs.in_string.Reads as reads
+use Rattle.lexemes.proofs.in_string.Lts as lts
+use Rattle.lexemes.proofs.both.Reads as both-reads
+use Rattle.lexemes.proofs.either.Reads as either-reads
+
+returns : tie.Need-returns
+unfolding inString
+returns c = cc
+
+pub in-string-spec : {M : Type 1} → statement M
+in-string-spec = tie.close (tie.spec
+    (λ c κs. search needs) (λ c κs. search needs) (λ c κs. search needs) returns)

@@ -1,0 +1,28 @@
+use mathlib.Core.Path.{_≡_, refl, sym, _∙_, ap}
+use Prim.Native.Nat.{ℕ, zero, suc, _+_, _-_, _*_, _≤_, _<_}
+use Rattle.lexemes.specs.Lexeme.{isName}
+use Rattle.lexemes.proofs.Laws.{name-empty, name-parts, ands}
+use mathlib.Core.Bool.{Bool, not, _&&_}
+use lib.Dec.{leb}
+use lib.ListN.{length}
+use native.Mathlib.Omega.{arith}
+use borrow.Author.Needs.{needs}
+use Rattle.lexemes.proofs.is_name.Statement.{statement}
+use Rattle.lexemes.proofs.is_name.Tie as tie
+use Rattle.lexemes.proofs.is_name.Reads as reads
+use Rattle.lexemes.proofs.is_name.Lts as lts
+use Rattle.lexemes.proofs.both.Reads as both-reads
+use Rattle.lexemes.proofs.go_on.Reads as go-on-reads
+use Rattle.lexemes.proofs.is_reserved.Reads as is-reserved-reads
+use Rattle.text.proofs.starts_name.Reads as starts-name-reads
+
+returns : tie.Need-returns
+returns c = name-empty (c .before .before .args .name .now) (c .if1 .taken)
+
+returns-2 : tie.Need-returns-2
+returns-2 c = c .both3 .ensures ∙ ands (c .before .before .before .both .ensures ∙ ands (c .before .before .before .before .before .starts-name .ensures) (c .before .before .before .before .go-on .ensures)) (c .before .both2 .ensures ∙ ap (λ (t : Bool). leb (length (c .before .before .before .before .before .before .before .before .before .args .name .now)) 64 && t) (ap not (c .before .before .is-reserved .ensures))) ∙ sym (name-parts (c .before .before .before .before .before .before .before .before .before .args .name .now))
+
+pub is-name-spec : {M : Type 1} → statement M
+is-name-spec = tie.close (tie.spec
+    returns (λ c. search needs) (λ c κs. search needs) (λ c κs. search needs) (λ c κs. search needs) (λ c κs. search needs) (λ c κs. search needs)
+    (λ c κs. search needs) returns-2)

@@ -1,0 +1,16 @@
+use Rattle.lexemes.specs.Lexeme.{isReal}
+use native.Mathlib.Omega.{arith}
+use borrow.Author.Needs.{needs}
+use Rattle.lexemes.proofs.is_real.Statement.{statement}
+use Rattle.lexemes.proofs.is_real.Tie as tie
+use Rattle.lexemes.proofs.is_real.Reads as reads
+use Rattle.lexemes.proofs.is_real.Lts as lts
+use Rattle.lexemes.proofs.both.Reads as both-reads
+
+returns : tie.Need-returns
+unfolding isReal
+returns c = cc
+
+pub is-real-spec : {M : Type 1} → statement M
+is-real-spec = tie.close (tie.spec
+    (λ c κs. search needs) (λ c κs. search needs) returns)

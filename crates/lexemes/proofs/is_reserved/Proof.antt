@@ -1,0 +1,23 @@
+use mathlib.Core.Path.{_≡_, refl, sym, _∙_, ap}
+use Prim.Native.Nat.{ℕ, zero, suc, _+_, _-_, _*_, _≤_, _<_}
+use Rattle.lexemes.proofs.Laws.{reserved-words, ors}
+use Rattle.text.specs.Bytes.{bytes}
+use native.Mathlib.Omega.{arith}
+use borrow.Author.Needs.{needs}
+use Rattle.lexemes.proofs.is_reserved.Statement.{statement}
+use Rattle.lexemes.proofs.is_reserved.Tie as tie
+use Rattle.lexemes.proofs.is_reserved.Reads as reads
+use Rattle.lexemes.proofs.is_reserved.Lts as lts
+use Rattle.lexemes.proofs.either.Reads as either-reads
+use Rattle.text.proofs.same_name.Reads as same-name-reads
+
+returns : tie.Need-returns
+unfolding bytes
+returns c = c .either7 .ensures ∙ ors (c .before .before .either5 .ensures ∙ ors (c .before .before .before .before .before .before .before .before .before .before .before .before .before .before .before .before .before .before .either .ensures ∙ ors (c .before .before .before .before .before .before .before .before .before .before .before .before .before .before .before .before .before .before .before .before .before .same-name .ensures) (c .before .before .before .before .before .before .before .before .before .before .before .before .before .before .before .before .before .before .before .same-name2 .ensures)) (c .before .before .before .before .before .before .before .before .before .before .before .before .before .either2 .ensures ∙ ors (c .before .before .before .before .before .before .before .before .before .before .before .before .before .before .before .before .same-name3 .ensures) (c .before .before .before .before .before .before .before .before .before .before .before .before .before .before .same-name4 .ensures))) (c .before .either6 .ensures ∙ ors (c .before .before .before .before .before .before .before .before .either3 .ensures ∙ ors (c .before .before .before .before .before .before .before .before .before .before .before .same-name5 .ensures) (c .before .before .before .before .before .before .before .before .before .same-name6 .ensures)) (c .before .before .before .either4 .ensures ∙ ors (c .before .before .before .before .before .before .same-name7 .ensures) (c .before .before .before .before .same-name8 .ensures))) ∙ sym (reserved-words (c .before .before .before .before .before .before .before .before .before .before .before .before .before .before .before .before .before .before .before .before .before .before .before .before .args .name .now))
+
+pub is-reserved-spec : {M : Type 1} → statement M
+is-reserved-spec = tie.close (tie.spec
+    (λ c. search needs) (λ c κs. search needs) (λ c. search needs) (λ c κs. search needs) (λ c κs. search needs) (λ c. search needs)
+    (λ c κs. search needs) (λ c. search needs) (λ c κs. search needs) (λ c κs. search needs) (λ c. search needs) (λ c κs. search needs)
+    (λ c. search needs) (λ c κs. search needs) (λ c κs. search needs) (λ c. search needs) (λ c κs. search needs) (λ c. search needs)
+    (λ c κs. search needs) (λ c κs. search needs) (λ c κs. search needs) (λ c κs. search needs) (λ c κs. search needs) returns)

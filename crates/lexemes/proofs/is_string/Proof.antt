@@ -1,0 +1,17 @@
+use Rattle.lexemes.specs.Lexeme.{isString}
+use native.Mathlib.Omega.{arith}
+use borrow.Author.Needs.{needs}
+use Rattle.lexemes.proofs.is_string.Statement.{statement}
+use Rattle.lexemes.proofs.is_string.Tie as tie
+use Rattle.lexemes.proofs.is_string.Reads as reads
+use Rattle.lexemes.proofs.is_string.Lts as lts
+use Rattle.lexemes.proofs.both.Reads as both-reads
+use Rattle.lexemes.proofs.string_bytes.Reads as string-bytes-reads
+
+returns : tie.Need-returns
+unfolding isString
+returns c = cc
+
+pub is-string-spec : {M : Type 1} → statement M
+is-string-spec = tie.close (tie.spec
+    (λ c κs. search needs) (λ c κs. search needs) returns)
