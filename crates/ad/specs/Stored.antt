@@ -7,6 +7,11 @@ use lib.ListN.{getD, take, drop}
 use lib.Dec.{eqb, ltb}
 use Rattle.text.specs.Strings.{sameName}
 use Rattle.syntax.specs.Bounds.{maxNodes, maxDefinitions}
+use Rattle.syntax.specs.Token.{pick}
+use Rattle.syntax.specs.declared.Binary.{Binary}
+use Rattle.syntax.specs.declared.Binary.the-variants.{Or, And, Equal, NotEqual, Is, Isnt, Less, LessOrEqual, Greater, GreaterOrEqual, Add, Subtract, Multiply, Divide, Remainder}
+use Rattle.syntax.specs.declared.Unary.{Unary}
+use Rattle.syntax.specs.declared.Unary.the-variants.{Not, Plus, Minus}
 use Rattle.ad.specs.Layout.{nodeWords}
 
 -- how many of the k numbers f i, f (i + 1), .. stand before the first that is 0: there 'Unused room is zero'
@@ -57,6 +62,29 @@ bytesAt b o n = take n (drop o b)
 unfoldable pub arity : ℕ → ℕ
 arity k = cond (ltb k 9) 0 (cond (ltb k 12) 1 (cond (eqb k 12) 3 (cond (ltb k 28) 2 0)))
 
+-- the operator of one operand of a node of kind k: 'unary `! + -`' (docs/LAYOUT.md: 'Layouts are the team's, written in docs/')
+unfoldable pub unaryOf : ℕ → Unary
+unaryOf k = pick (eqb k 9) (λ _. Not) (λ _. pick (eqb k 10) (λ _. Plus) (λ _. Minus))
+
+-- the operator of two operands of a node of kind k: '`||`; `&&`; `== != is isnt`; ..' (docs/LAYOUT.md)
+unfoldable pub binaryOf : ℕ → Binary
+binaryOf k =
+    pick (eqb k 13) (λ _. Or) (λ _.
+    pick (eqb k 14) (λ _. And) (λ _.
+    pick (eqb k 15) (λ _. Equal) (λ _.
+    pick (eqb k 16) (λ _. NotEqual) (λ _.
+    pick (eqb k 17) (λ _. Is) (λ _.
+    pick (eqb k 18) (λ _. Isnt) (λ _.
+    pick (eqb k 19) (λ _. Less) (λ _.
+    pick (eqb k 20) (λ _. LessOrEqual) (λ _.
+    pick (eqb k 21) (λ _. Greater) (λ _.
+    pick (eqb k 22) (λ _. GreaterOrEqual) (λ _.
+    pick (eqb k 23) (λ _. Add) (λ _.
+    pick (eqb k 24) (λ _. Subtract) (λ _.
+    pick (eqb k 25) (λ _. Multiply) (λ _.
+    pick (eqb k 26) (λ _. Divide) (λ _.
+    Remainder))))))))))))))
+
 -- whether a kind is that of a reference `name`: 'Reference: `name` or `other.name`'
 abbrev pub isOwn : ℕ → Bool
 isOwn k = eqb k 7
@@ -76,6 +104,11 @@ operands w i = take (arity (kindAt w i)) (operandAt w i 0 ∷ operandAt w i 1 �
 -- the name of the reference i, as written: 'Names .. are kept as written'
 abbrev pub nameAt : List ℕ → List ℕ → ℕ → List ℕ
 nameAt w b i = bytesAt b (operandAt w i 0) (operandAt w i 1)
+
+-- whether one of k stored definitions, from definition j on, has a name
+unfoldable pub definedIn : List ℕ → List ℕ → List ℕ → ℕ → ℕ → Bool
+definedIn w b name j zero = false
+definedIn w b name j (suc k) = sameName (bytesAt b (offsetAt w j) (lengthAt w j)) name || definedIn w b name (j + 1) k
 
 -- the root of the first of k definitions, from definition j on, whose name matches: 'Names match without regard to ASCII case'
 unfoldable pub findFrom : List ℕ → List ℕ → List ℕ → ℕ → ℕ → List ℕ

@@ -1,4 +1,6 @@
 // The stored ad: its layout in lent memory, read and written by the numbers of its nodes and definitions.
+use syntax::Binary;
+use syntax::Unary;
 ghost use mathlib.Core.Path.{_≡_};
 ghost use mathlib.Core.List.{[], _∷_};
 ghost use Prim.Native.Nat.{_+_, _*_, _-_, _≤_, _<_};
@@ -6,7 +8,7 @@ ghost use lib.ListN.{length, replicate};
 ghost use lib.Seq.{sets, slice};
 ghost use Rattle.text.specs.Strings.{sameName};
 ghost use Rattle.ad.specs.Layout.{node};
-ghost use Rattle.ad.specs.Stored.{kindAt, operandAt, offsetAt, lengthAt, rootAt, bytesAt};
+ghost use Rattle.ad.specs.Stored.{kindAt, operandAt, offsetAt, lengthAt, rootAt, bytesAt, unaryOf, binaryOf, definedIn};
 
 // The room of an ad: 1,024 nodes of four words, behind them 256 definitions of three, and 16,384 bytes.
 pub const NODE_WORDS: usize = 4096;
@@ -28,6 +30,40 @@ pub fn kind(words: &[u64], i: usize) -> u64
     ensures { λ r. ⌜ r ≡ kindAt (now (words .entry)) i ⌝ }
 {
     words[4 * i]
+}
+
+// The operator of two operands of a node of this kind.
+pub fn binary_of(kind: u64) -> Binary
+    ensures { λ r. ⌜ r ≡ binaryOf kind ⌝ }
+{
+    match kind {
+        13 => Binary::Or,
+        14 => Binary::And,
+        15 => Binary::Equal,
+        16 => Binary::NotEqual,
+        17 => Binary::Is,
+        18 => Binary::Isnt,
+        19 => Binary::Less,
+        20 => Binary::LessOrEqual,
+        21 => Binary::Greater,
+        22 => Binary::GreaterOrEqual,
+        23 => Binary::Add,
+        24 => Binary::Subtract,
+        25 => Binary::Multiply,
+        26 => Binary::Divide,
+        _ => Binary::Remainder,
+    }
+}
+
+// The operator of one operand of a node of this kind.
+pub fn unary_of(kind: u64) -> Unary
+    ensures { λ r. ⌜ r ≡ unaryOf kind ⌝ }
+{
+    match kind {
+        9 => Unary::Not,
+        10 => Unary::Plus,
+        _ => Unary::Minus,
+    }
 }
 
 // Node i's operand or datum j.
@@ -84,6 +120,21 @@ pub fn has_name(words: &[u64], bytes: &[u8], j: usize, name: &[u8]) -> bool
     let at = offset(words, j);
     let len = name_length(words, j);
     text::same_name(part(bytes, at, len), name)
+}
+
+// Whether one of the first d stored definitions has a name.
+pub fn defined(words: &[u64], bytes: &[u8], d: usize, name: &[u8]) -> bool
+    requires { ⌜ (d ≤ 256) × (4864 ≤ length (now words)) ⌝ }
+    ensures { λ r. ⌜ r ≡ definedIn (now (words .entry)) (now (bytes .entry)) (now (name .entry)) 0 d ⌝ }
+{
+    let mut j = 0;
+    while j < d {
+        if has_name(words, bytes, j, name) {
+            return true;
+        }
+        j += 1;
+    }
+    false
 }
 
 // Writes node n.

@@ -8,15 +8,15 @@ use mathlib.Core.Bool.{Bool, true, false, _||_}
 use mathlib.Core.List.{List, [], _∷_, _++_, append-assoc, append-nil}
 use lib.ListN.{length, getD, set, take, drop, length-append, length-take}
 use lib.Seq.{sets, set-comm, sets-eq, length-sets, take-append-seam, drop-append-seam, drop-drop, getD-drop, drop-at}
-use Rattle.text.specs.Strings.{sameName}
 use Rattle.text.specs.Parts.{sets-append}
 use Rattle.syntax.specs.Tree.{Expr, Definition, Ad, size, nodes}
 use Rattle.syntax.specs.Grammar.{defined}
 use Rattle.ad.specs.Layout.{exprNodes, exprBytes, adNodes, adDefinitions, adBytes}
-use Rattle.ad.specs.Stored.{offsetAt, lengthAt, bytesAt}
+use Rattle.ad.specs.Stored.{definedIn}
+use Rattle.ad.specs.Laws.Names.{names-in}
 use Rattle.leaves.specs.Marks.{Mark, mark, Memory, memory}
 use Rattle.expressions.proofs.Words.{length-nodes, stores, marks}
-use Rattle.reader.specs.Post.{definedIn, ends, storedIn, Holds, one}
+use Rattle.reader.specs.Post.{ends, storedIn, Holds, one}
 
 -- ---- one definition more
 
@@ -148,23 +148,6 @@ module _ (d : ℕ) (m : Mark) (w v : Memory) (a : Ad) (H : Holds d m w v a) (nam
   }
 
 -- ---- names found again
-
--- from the words and bytes of some definitions on
-names-in : (w b name : List ℕ) (n o j : ℕ) (a : Ad) (W B : List ℕ) → drop (4096 + 3 * j) w ≡ adDefinitions n o a ++ W → drop o b ≡ adBytes a ++ B → definedIn w b name j (length a) ≡ defined name a
-unfolding definedIn defined adDefinitions adBytes
-names-in w b name n o j [] W B h h′ = refl
-names-in w b name n o j (x ∷ a) W B h h′ =
-    let e = x .expression in
-    let i₀ : 4096 + 3 * j + 0 ≡ 4096 + 3 * j = omega arith in
-    let p₀ : getD w (4096 + 3 * j) 0 ≡ o = ap (λ (k : ℕ). getD w k 0) (sym i₀) ∙ (sym (getD-drop (4096 + 3 * j) w 0 0) ∙ ap (λ (l : List ℕ). getD l 0 0) h) in
-    let p₁ : getD w (4096 + 3 * j + 1) 0 ≡ length (x .name) = sym (getD-drop (4096 + 3 * j) w 1 0) ∙ ap (λ (l : List ℕ). getD l 1 0) h in
-    let i₁ : 4096 + 3 * j + 3 ≡ 4096 + 3 * (j + 1) = omega arith in
-    let q : drop (4096 + 3 * (j + 1)) w ≡ adDefinitions (n + size e) (o + length (x .name) + length (exprBytes e)) a ++ W = ap (λ (k : ℕ). drop k w) (sym i₁) ∙ (sym (drop-drop 3 (4096 + 3 * j) w) ∙ ap (drop 3) h) in
-    let c : (x .name ++ (exprBytes e ++ adBytes a)) ++ B ≡ x .name ++ (exprBytes e ++ (adBytes a ++ B)) = append-assoc (x .name) (exprBytes e ++ adBytes a) B ∙ ap (_++_ (x .name)) (append-assoc (exprBytes e) (adBytes a) B) in
-    let r₁ : drop (o + length (x .name)) b ≡ exprBytes e ++ (adBytes a ++ B) = sym (drop-drop (length (x .name)) o b) ∙ (ap (drop (length (x .name))) (h′ ∙ c) ∙ drop-append-seam (x .name) (exprBytes e ++ (adBytes a ++ B))) in
-    let r₂ : drop (o + length (x .name) + length (exprBytes e)) b ≡ adBytes a ++ B = sym (drop-drop (length (exprBytes e)) (o + length (x .name)) b) ∙ (ap (drop (length (exprBytes e))) r₁ ∙ drop-append-seam (exprBytes e) (adBytes a ++ B)) in
-    let s : take (length (x .name)) (drop o b) ≡ x .name = ap (take (length (x .name))) (h′ ∙ c) ∙ take-append-seam (x .name) (exprBytes e ++ (adBytes a ++ B)) in
-    rw (p₀, p₁, s, names-in w b name (n + size e) (o + length (x .name) + length (exprBytes e)) (j + 1) a W B q r₂) refl
 
 pub names-found : (d : ℕ) (m : Mark) (w v : Memory) (a : Ad) → Holds d m w v a → d ≤ 256 → 4864 ≤ length (w .words) → m .bytes ≤ length (w .bytes) → (name : List ℕ) → definedIn (w .words) (w .bytes) name 0 d ≡ defined name a
 names-found d m w v a H hd hw hb name =

@@ -7,7 +7,6 @@ use mathlib.Core.List.{List, [], _∷_, _++_}
 use lib.ListN.{length, take, drop}
 use lib.Seq.{sets, slice, length-slice, length-sets}
 use borrow.Author.Tests.{le-leb, lt-leb}
-use Rattle.text.specs.Strings.{sameName}
 use Rattle.text.specs.Parts.{part-slice}
 use Rattle.syntax.specs.Tree.{Expr, Definition, Ad, size, nodes}
 use Rattle.syntax.specs.Token as T
@@ -19,34 +18,16 @@ use Rattle.syntax.specs.declared.Symbol.the-variants.{OpenBracket, CloseBracket
 use Rattle.lexer.specs.Meaning.{tokensAt}
 use Rattle.lookahead.specs.Ask.{NotToken, NotWord, Misfit, Stands}
 use Rattle.ad.specs.Layout.{exprNodes, exprBytes, adNodes, adDefinitions, adBytes}
-use Rattle.ad.specs.Stored.{offsetAt, lengthAt, bytesAt}
+use Rattle.ad.specs.Stored.{definedIn}
 use Rattle.leaves.specs.Marks.{Mark, mark, past, Memory, memory, written, left, Inside}
 use Rattle.leaves.proofs.Laws.{fewer-left, misfit-of, token-off, word-off}
 use Rattle.expressions.specs.Post.{ConditionalOk}
 use Rattle.expressions.specs.declared.Read.the-variants as E
 use Rattle.expressions.proofs.Words.{stores}
-use Rattle.reader.specs.Post.{definedIn, ends, storedIn, Holds, AgreesAd, DefinitionsOk, BehindOk, EndOk, definitionAt, one, DefinitionOk}
+use Rattle.reader.specs.Post.{ends, storedIn, Holds, AgreesAd, DefinitionsOk, BehindOk, EndOk, definitionAt, one, DefinitionOk}
 use Rattle.reader.specs.declared.Answer.{Answer}
 use Rattle.reader.specs.declared.Answer.the-variants.{Accepted, Refused}
 use Rattle.reader.proofs.Ads.{names-found, holds-more}
-
--- ---- a name is looked for
-
-module _ (w b name : List ℕ) (j d : ℕ) where
-  pub look-more : j < d → sameName (bytesAt b (offsetAt w j) (lengthAt w j)) name ≡ false → definedIn w b name j (d - j) ≡ definedIn w b name (j + 1) (d - (j + 1))
-  unfolding definedIn
-  look-more h e = let i : d - j ≡ suc (d - (j + 1)) = omega arith in rw (i, e) refl
-
-  pub look-found : j < d → sameName (bytesAt b (offsetAt w j) (lengthAt w j)) name ≡ true → true ≡ definedIn w b name j (d - j)
-  unfolding definedIn
-  look-found h e = let i : d - j ≡ suc (d - (j + 1)) = omega arith in rw (i, e) refl
-
-  pub look-end : d ≤ j → false ≡ definedIn w b name j (d - j)
-  unfolding definedIn
-  look-end h = let i : d - j ≡ zero = omega arith in rw i refl
-
-pub look-all : (w b name : List ℕ) (d : ℕ) → definedIn w b name 0 (d - 0) ≡ definedIn w b name 0 d
-look-all w b name d = let i : d - 0 ≡ d = omega arith in ap (definedIn w b name 0) i
 
 -- ---- the end of an ad
 

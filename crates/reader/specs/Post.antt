@@ -1,11 +1,9 @@
 -- What the readers of definitions ensure. s is the text. Assumes nothing.
-use Prim.Native.Nat.{ℕ, zero, suc, _+_, _*_, _≤_, _<_}
+use Prim.Native.Nat.{ℕ, _+_, _*_, _≤_, _<_}
 use mathlib.Core.Path.{_≡_}
-use mathlib.Core.Bool.{Bool, true, false, _||_}
 use mathlib.Core.List.{List, [], _∷_, _++_}
 use lib.ListN.{length, drop}
 use lib.Seq.{sets, slice}
-use Rattle.text.specs.Strings.{sameName}
 use Rattle.syntax.specs.Tree.{Expr, Definition, Ad, size, nodes}
 use Rattle.syntax.specs.Token.{Tokens, symbol, end}
 use Rattle.syntax.specs.Reader as R
@@ -13,18 +11,11 @@ use Rattle.syntax.specs.Reader.{limits, conditionalAt, afterA, wantA, endA, adm
 use Rattle.syntax.specs.declared.Symbol.the-variants.{Assign}
 use Rattle.lexer.specs.Meaning.{tokensAt}
 use Rattle.ad.specs.Layout.{adNodes, adDefinitions, adBytes}
-use Rattle.ad.specs.Stored.{offsetAt, lengthAt, bytesAt}
 use Rattle.leaves.specs.Marks.{Mark, mark, Memory, memory, left}
 use Rattle.expressions.specs.declared.Read.{Read}
 use Rattle.expressions.specs.declared.Read.the-variants as E
 use Rattle.reader.specs.declared.Answer.{Answer}
 use Rattle.reader.specs.declared.Answer.the-variants.{Accepted, Refused}
-
--- whether one of k stored definitions, from definition j on, has a name: for 'name defined twice'; 'Names match without regard to
--- ASCII case'
-unfoldable pub definedIn : List ℕ → List ℕ → List ℕ → ℕ → ℕ → Bool
-definedIn w b name j zero = false
-definedIn w b name j (suc k) = sameName (bytesAt b (offsetAt w j) (lengthAt w j)) name || definedIn w b name (j + 1) k
 
 -- behind the ad a: its nodes and bytes are stored; for 'Nodes are counted in text order'
 abbrev pub ends : Ad → Mark

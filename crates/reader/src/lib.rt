@@ -8,7 +8,7 @@ ghost use mathlib.Core.Path.{_≡_};
 ghost use Prim.Native.Nat.{_+_, _≤_, _<_};
 ghost use lib.ListN.{length};
 ghost use Rattle.leaves.specs.Marks.{mark, memory};
-ghost use Rattle.reader.specs.Post.{definedIn, AdRoom, AgreesAd, DefinitionsOk, BehindOk, EndOk, DefinitionOk, DefinitionWithin};
+ghost use Rattle.reader.specs.Post.{AdRoom, AgreesAd, DefinitionsOk, BehindOk, EndOk, DefinitionOk, DefinitionWithin};
 ghost use Rattle.reader.specs.Content.{Exact, Left, Cleared, Answered};
 ghost use Rattle.syntax.specs.Reader.{parse};
 
@@ -18,21 +18,6 @@ pub enum Answer {
     Accepted(usize, usize),
     // The refusal's number and the byte's place.
     Refused(u8, usize),
-}
-
-// Whether one of the first d stored definitions has a name.
-fn defined(words: &[u64], bytes: &[u8], d: usize, name: &[u8]) -> bool
-    requires { ⌜ (d ≤ 256) × (4864 ≤ length (now words)) ⌝ }
-    ensures { λ r. ⌜ r ≡ definedIn (now (words .entry)) (now (bytes .entry)) (now (name .entry)) 0 d ⌝ }
-{
-    let mut j = 0;
-    while j < d {
-        if ad::has_name(words, bytes, j, name) {
-            return true;
-        }
-        j += 1;
-    }
-    false
 }
 
 // Behind the closing bracket of an ad of d definitions and n nodes the text ends.
@@ -66,7 +51,7 @@ fn read_definition(
     ensures within { λ r. ⌜ DefinitionWithin (now (text .entry)) q d r ⌝ }
     ensures exact { λ r. ⌜ DefinitionOk (now (text .entry)) p q d (mark n k) (memory (now (words .entry)) (now (bytes .entry))) (memory (now (words .exit)) (now (bytes .exit))) r ⌝ }
 {
-    if defined(words, bytes, d, &text[p..q]) {
+    if ad::defined(words, bytes, d, &text[p..q]) {
         return Read::Refused(8, p);
     }
     if 256 <= d {

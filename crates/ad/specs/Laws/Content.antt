@@ -5,19 +5,18 @@ use mathlib.Core.Path.{_≡_, refl, sym, _∙_, ap, subst}
 use mathlib.Core.Bool.{Bool, true, false, cond}
 use mathlib.Core.List.{List, [], _∷_, _++_, append-assoc, head-eq-of-cons-eq, tail-eq-of-cons-eq, nil≢cons, cons≢nil}
 use lib.ListN.{length, getD, take, drop, replicate, length-append, length-replicate, getD-replicate}
-use lib.Dec.{eqb}
 use Rattle.syntax.specs.Bounds.{maxNodes}
 use Rattle.syntax.specs.Tree.{Literal, undefined, error, boolean, integer, real, string, Scope, own, other, Expr, literal, reference, unary, binary, conditional, Definition, Ad, size, nodes}
-use Rattle.syntax.specs.Token.{pick}
 use Rattle.syntax.specs.declared.Binary.{Binary}
 use Rattle.syntax.specs.declared.Binary.the-variants.{Or, And, Equal, NotEqual, Is, Isnt, Less, LessOrEqual, Greater, GreaterOrEqual, Add, Subtract, Multiply, Divide, Remainder}
 use Rattle.syntax.specs.declared.Unary.{Unary}
 use Rattle.syntax.specs.declared.Unary.the-variants.{Not, Plus, Minus}
+use Rattle.ad.specs.Stored.{unaryOf, binaryOf}
 use Rattle.ad.specs.Layout.{unaryKind, binaryKind, scopeKind, node, literalNode, literalBytes, exprNodes, exprBytes, adNodes, adDefinitions, adBytes, Named, nodeWords, adWords, padded, storedWords, storedBytes}
 
 -- ---- lists taken apart
 
-split : {A : Type 0} (xs ys us vs : List A) → length xs ≡ length ys → xs ++ us ≡ ys ++ vs → (xs ≡ ys) × (us ≡ vs)
+pub split : {A : Type 0} (xs ys us vs : List A) → length xs ≡ length ys → xs ++ us ≡ ys ++ vs → (xs ≡ ys) × (us ≡ vs)
 split [] [] us vs l e = (refl, e)
 split [] (y ∷ ys) us vs l e = absurd (omega arith)
 split (x ∷ xs) [] us vs l e = absurd (omega arith)
@@ -37,39 +36,18 @@ bit-same false false h = refl
 reals : {n n′ k k′ : ℕ} → n ≡ n′ → k ≡ k′ → real n k ≡ real n′ k′
 reals p q = λ i. real (p i) (q i)
 
-unaryOf : ℕ → Unary
-unaryOf k = pick (eqb k 9) (λ _. Not) (λ _. pick (eqb k 10) (λ _. Plus) (λ _. Minus))
-
-unary-found : (u : Unary) → unaryOf (unaryKind u) ≡ u
+pub unary-found : (u : Unary) → unaryOf (unaryKind u) ≡ u
 unfolding unaryOf
 unary-found Not = refl
 unary-found Plus = refl
 unary-found Minus = refl
 
-unary-range : (u : Unary) → (9 ≤ unaryKind u) × (unaryKind u ≤ 11)
+pub unary-range : (u : Unary) → (9 ≤ unaryKind u) × (unaryKind u ≤ 11)
 unary-range Not = omega arith
 unary-range Plus = omega arith
 unary-range Minus = omega arith
 
-binaryOf : ℕ → Binary
-binaryOf k =
-    pick (eqb k 13) (λ _. Or) (λ _.
-    pick (eqb k 14) (λ _. And) (λ _.
-    pick (eqb k 15) (λ _. Equal) (λ _.
-    pick (eqb k 16) (λ _. NotEqual) (λ _.
-    pick (eqb k 17) (λ _. Is) (λ _.
-    pick (eqb k 18) (λ _. Isnt) (λ _.
-    pick (eqb k 19) (λ _. Less) (λ _.
-    pick (eqb k 20) (λ _. LessOrEqual) (λ _.
-    pick (eqb k 21) (λ _. Greater) (λ _.
-    pick (eqb k 22) (λ _. GreaterOrEqual) (λ _.
-    pick (eqb k 23) (λ _. Add) (λ _.
-    pick (eqb k 24) (λ _. Subtract) (λ _.
-    pick (eqb k 25) (λ _. Multiply) (λ _.
-    pick (eqb k 26) (λ _. Divide) (λ _.
-    Remainder))))))))))))))
-
-binary-found : (j : Binary) → binaryOf (binaryKind j) ≡ j
+pub binary-found : (j : Binary) → binaryOf (binaryKind j) ≡ j
 unfolding binaryOf
 binary-found Or = refl
 binary-found And = refl
@@ -87,7 +65,7 @@ binary-found Multiply = refl
 binary-found Divide = refl
 binary-found Remainder = refl
 
-binary-high : (j : Binary) → 13 ≤ binaryKind j
+pub binary-high : (j : Binary) → 13 ≤ binaryKind j
 binary-high Or = omega arith
 binary-high And = omega arith
 binary-high Equal = omega arith
@@ -104,6 +82,23 @@ binary-high Multiply = omega arith
 binary-high Divide = omega arith
 binary-high Remainder = omega arith
 
+pub binary-low : (j : Binary) → binaryKind j ≤ 27
+binary-low Or = omega arith
+binary-low And = omega arith
+binary-low Equal = omega arith
+binary-low NotEqual = omega arith
+binary-low Is = omega arith
+binary-low Isnt = omega arith
+binary-low Less = omega arith
+binary-low LessOrEqual = omega arith
+binary-low Greater = omega arith
+binary-low GreaterOrEqual = omega arith
+binary-low Add = omega arith
+binary-low Subtract = omega arith
+binary-low Multiply = omega arith
+binary-low Divide = omega arith
+binary-low Remainder = omega arith
+
 scope-same : (s s′ : Scope) → scopeKind s ≡ scopeKind s′ → s ≡ s′
 unfolding scopeKind
 scope-same own own h = refl
@@ -111,7 +106,7 @@ scope-same own other h = absurd (omega arith)
 scope-same other own h = absurd (omega arith)
 scope-same other other h = refl
 
-scope-range : (s : Scope) → (7 ≤ scopeKind s) × (scopeKind s ≤ 8)
+pub scope-range : (s : Scope) → (7 ≤ scopeKind s) × (scopeKind s ≤ 8)
 unfolding scopeKind
 scope-range own = omega arith
 scope-range other = omega arith
@@ -125,7 +120,7 @@ literal-low o (integer n) = omega arith
 literal-low o (real n k) = omega arith
 literal-low o (string l) = omega arith
 
-literal-four : (o : ℕ) (l : Literal) → length (literalNode o l) ≡ 4
+pub literal-four : (o : ℕ) (l : Literal) → length (literalNode o l) ≡ 4
 unfolding literalNode
 literal-four o undefined = refl
 literal-four o error = refl
@@ -209,7 +204,7 @@ last-four n o (unary u a) = refl
 last-four n o (binary j a b) = refl
 last-four n o (conditional a b c) = refl
 
-length-nodes : (n o : ℕ) (e : Expr) → length (exprNodes n o e) ≡ 4 * size e
+pub length-nodes : (n o : ℕ) (e : Expr) → length (exprNodes n o e) ≡ 4 * size e
 unfolding exprNodes size
 length-nodes n o (literal l) = literal-four o l
 length-nodes n o (reference s w) = refl
@@ -217,7 +212,7 @@ length-nodes n o (unary u a) = simp length-append (omega (arith, length-nodes n 
 length-nodes n o (binary j a b) = simp length-append (omega (arith, length-nodes n o a, length-nodes (n + size a) (o + length (exprBytes a)) b))
 length-nodes n o (conditional a b c) = simp length-append (omega (arith, length-nodes n o a, length-nodes (n + size a) (o + length (exprBytes a)) b, length-nodes (n + size a + size b) (o + length (exprBytes a) + length (exprBytes b)) c))
 
-size-some : (e : Expr) → 1 ≤ size e
+pub size-some : (e : Expr) → 1 ≤ size e
 unfolding size
 size-some (literal l) = omega arith
 size-some (reference s w) = omega arith
@@ -353,7 +348,7 @@ ad-same n o z z′ X X′ Y Y′ (d ∷ ds) (d′ ∷ ds′) m m′ h f g =
     let r = ad-same (nodeBehind n d) (byteBehind o d) z z′ X X′ Y Y′ ds ds′ (m .1) (m′ .1) h₂ f₂ g₂ in
     (λ i. p i ∷ r i)
 
-length-ad : (n o : ℕ) (a : Ad) → length (adNodes n o a) ≡ 4 * nodes a
+pub length-ad : (n o : ℕ) (a : Ad) → length (adNodes n o a) ≡ 4 * nodes a
 unfolding adNodes nodes
 length-ad n o [] = refl
 length-ad n o (d ∷ ds) = simp length-append (omega (arith, length-nodes n (o + length (d .name)) (d .expression), length-ad (nodeBehind n d) (byteBehind o d) ds))

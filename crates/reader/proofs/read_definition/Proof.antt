@@ -16,7 +16,7 @@ use Rattle.ad.proofs.copy.Reads as copy-reads
 use Rattle.ad.proofs.store_definition.Reads as store-definition-reads
 use Rattle.expressions.proofs.read_conditional.Reads as read-conditional-reads
 use Rattle.lookahead.proofs.symbol_at.Reads as symbol-at-reads
-use Rattle.reader.proofs.defined.Reads as defined-reads
+use Rattle.ad.proofs.defined.Reads as defined-reads
 
 returns : tie.Need-returns
 returns c = let R = (c .before .before .before .before .before .before .before .before .pre .1 .1) in (tt, definition-twice ((c .before .before .before .before .before .before .before .before .args) .text .now) ((c .before .before .before .before .before .before .before .before .args) .p) ((c .before .before .before .before .before .before .before .before .args) .q) ((c .before .before .before .before .before .before .before .before .args) .d) (mark (c .before .before .before .before .before .before .before .before .args .n) (c .before .before .before .before .before .before .before .before .args .k)) (memory (c .before .before .before .before .before .before .before .before .args .words .now) (c .before .before .before .before .before .before .before .before .args .bytes .now)) (R .few) (R .words) (omega (arith, R .short, R .place, R .bytes)) (omega (arith, c .before .before .before .before .before .before .before .before .pre .0)) (memory (c .before .before .before .before .before .before .before .before .args .words .now) (c .before .before .before .before .before .before .before .before .args .bytes .now)) (sym (c .if1 .taken) ∙ c .before .defined .ensures))
