@@ -1,0 +1,22 @@
+use mathlib.Core.Path.{_≡_, refl, sym, _∙_, ap, subst}
+use mathlib.Core.Bool.{Bool, true, false, cond, _&&_}
+use Prim.Native.Nat.{ℕ, zero, suc, _+_, _-_, _*_, _≤_, _<_}
+use lib.ListN.{length}
+use lib.Dec.{ltb, leb, eqb}
+use borrow.Author.Tests.{lt-ltb, le-ltb}
+use native.Mathlib.Omega.{arith}
+use borrow.Author.Needs.{needs}
+use Rattle.well_formed.proofs.around.Statement.{statement}
+use Rattle.well_formed.proofs.around.Tie as tie
+use Rattle.well_formed.proofs.around.Reads as reads
+use Rattle.well_formed.proofs.around.Lts as lts
+
+returns : tie.Need-returns
+returns c = (rw (lt-ltb _ _ (c .if1 .taken)) refl, omega arith)
+
+returns-2 : tie.Need-returns-2
+returns-2 c = (rw (le-ltb _ _ (c .if1 .left)) refl, omega arith)
+
+pub around-spec : {M : Type 1} → statement M
+around-spec = tie.close (tie.spec
+    (λ c. search needs) returns returns-2)

@@ -1,0 +1,29 @@
+use mathlib.Core.Path.{_≡_, refl, sym, _∙_, ap, subst}
+use mathlib.Core.Bool.{Bool, true, false, cond, _&&_}
+use Prim.Native.Nat.{ℕ, zero, suc, _+_, _-_, _*_, _≤_, _<_}
+use lib.ListN.{length}
+use lib.Dec.{ltb, leb, eqb}
+use Rattle.well_formed.proofs.Tests.{walk-if, walk-bad}
+use Rattle.well_formed.specs.Decode.{booleanFits}
+use Rattle.well_formed.specs.Laws.Shapes.{and-left}
+use borrow.Author.Tests.{leb-true}
+use native.Mathlib.Omega.{arith}
+use borrow.Author.Needs.{needs}
+use Rattle.well_formed.proofs.boolean_walk.Statement.{statement}
+use Rattle.well_formed.proofs.boolean_walk.Tie as tie
+use Rattle.well_formed.proofs.boolean_walk.Reads as reads
+use Rattle.well_formed.proofs.boolean_walk.Lts as lts
+use Rattle.lexemes.proofs.both.Reads as both-reads
+
+sub-t7 : tie.Need-sub-t7
+sub-t7 c = omega (arith, leb-true (c .before .before .args .x) 1 (and-left (leb (c .before .before .args .x) 1) (eqb (c .before .before .args .y) 0) (sym (c .before .both .ensures) ∙ c .if1 .taken)))
+
+returns : tie.Need-returns
+returns c = walk-if (booleanFits (c .before .before .args .x) (c .before .before .args .y)) _ (sym (c .before .both .ensures) ∙ c .if1 .taken)
+
+returns-2 : tie.Need-returns-2
+returns-2 c = walk-bad (booleanFits (c .before .before .args .x) (c .before .before .args .y)) _ (sym (c .before .both .ensures) ∙ c .if1 .left)
+
+pub boolean-walk-spec : {M : Type 1} → statement M
+boolean-walk-spec = tie.close (tie.spec
+    (λ c κs. search needs) sub-t7 returns returns-2)

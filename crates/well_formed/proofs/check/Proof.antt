@@ -1,0 +1,36 @@
+use mathlib.Core.Path.{_≡_, refl, sym, _∙_, ap, subst}
+use mathlib.Core.Bool.{Bool, true, false, cond, _&&_}
+use Prim.Native.Nat.{ℕ, zero, suc, _+_, _-_, _*_, _≤_, _<_}
+use lib.ListN.{length}
+use lib.Dec.{ltb, leb, eqb}
+use lib.Seq.{length-take-le}
+use Rattle.well_formed.proofs.Answer.{small-words, small-bytes}
+use native.Mathlib.Omega.{arith}
+use borrow.Author.Needs.{needs}
+use Rattle.well_formed.proofs.check.Statement.{statement}
+use Rattle.well_formed.proofs.check.Tie as tie
+use Rattle.well_formed.proofs.check.Reads as reads
+use Rattle.well_formed.proofs.check.Lts as lts
+use Rattle.well_formed.proofs.check_room.Reads as check-room-reads
+
+returns : tie.Need-returns
+returns c = small-words (c .before .before .before .args .words .now) (c .before .before .before .args .bytes .now) (c .if1 .taken)
+
+returns-2 : tie.Need-returns-2
+returns-2 c = small-bytes (c .before .before .before .before .args .words .now) (c .before .before .before .before .args .bytes .now) (c .if2 .taken)
+
+slice-aggregate-check-room : tie.Need-slice-aggregate-check-room
+slice-aggregate-check-room c = sym (length-take-le 4864 (c .before .before .before .before .before .args .words .now) (c .before .before .if1 .left))
+
+slice-aggregate-check-room-2 : tie.Need-slice-aggregate-check-room-2
+slice-aggregate-check-room-2 c = sym (length-take-le 16384 (c .before .before .before .before .before .before .args .bytes .now) (c .before .before .if2 .left))
+
+check-room-requires : tie.Need-check-room-requires
+check-room-requires c κs = (length-take-le 4864 (c .before .before .before .before .before .before .args .words .now) (c .before .before .before .if1 .left), length-take-le 16384 (c .before .before .before .before .before .before .args .bytes .now) (c .before .before .if2 .left))
+
+returns-3 : tie.Need-returns-3
+returns-3 c = c .check-room .ensures
+
+pub check-spec : {M : Type 1} → statement M
+check-spec = tie.close (tie.spec
+    returns returns-2 slice-aggregate-check-room slice-aggregate-check-room-2 check-room-requires returns-3)

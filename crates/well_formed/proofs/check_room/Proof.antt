@@ -1,0 +1,42 @@
+use mathlib.Core.Path.{_≡_, refl, sym, _∙_, ap, subst}
+use mathlib.Core.Bool.{Bool, true, false, cond, _&&_}
+use Prim.Native.Nat.{ℕ, zero, suc, _+_, _-_, _*_, _≤_, _<_}
+use lib.ListN.{length}
+use lib.Dec.{ltb, leb, eqb}
+use Rattle.well_formed.proofs.Tests.{ands}
+use Rattle.well_formed.proofs.Answer.{room-bad, rows-inside, room-not, room-good}
+use Rattle.well_formed.proofs.Entries.{rows-room}
+use native.Mathlib.Omega.{arith}
+use borrow.Author.Needs.{needs}
+use Rattle.well_formed.proofs.check_room.Statement.{statement}
+use Rattle.well_formed.proofs.check_room.Tie as tie
+use Rattle.well_formed.proofs.check_room.Reads as reads
+use Rattle.well_formed.proofs.check_room.Lts as lts
+use Rattle.lexemes.proofs.both.Reads as both-reads
+use Rattle.well_formed.proofs.distinct.Reads as distinct-reads
+use Rattle.well_formed.proofs.print_length.Reads as print-length-reads
+use Rattle.well_formed.proofs.rows_from.Reads as rows-from-reads
+use Rattle.well_formed.proofs.zero_behind.Reads as zero-behind-reads
+
+rows-from-requires : tie.Need-rows-from-requires
+rows-from-requires c κs = rows-room (c .before .before .args .words .now) (c .before .before .args .bytes .now) 0 0 0 (omega arith) (omega arith) (omega arith) (omega arith) (c .before .before .pre .1)
+
+distinct-requires : tie.Need-distinct-requires
+distinct-requires c κs = let x = rows-inside (c .before .before .before .before .before .before .args .words .now) (c .before .before .before .before .before .before .args .bytes .now) (c .before .before .before .before .before .before .pre .0) (c .before .before .before .before .before .before .pre .1) (c .before .d .given .0 .0) (c .before .d .given .0 .1 .0) (c .before .d .given .0 .1 .1 .0) (c .before .d .given .0 .1 .1 .1 .0) (rw (c .before .d .given .1) at (c .before .before .before .rows-from .ensures)) in (x .0, omega arith)
+
+zero-behind-requires : tie.Need-zero-behind-requires
+zero-behind-requires c κs = let x = rows-inside (c .before .before .before .before .before .before .before .args .words .now) (c .before .before .before .before .before .before .before .args .bytes .now) (c .before .before .before .before .before .before .before .pre .0) (c .before .before .before .before .before .before .before .pre .1) (c .before .before .d .given .0 .0) (c .before .before .d .given .0 .1 .0) (c .before .before .d .given .0 .1 .1 .0) (c .before .before .d .given .0 .1 .1 .1 .0) (rw (c .before .before .d .given .1) at (c .before .before .before .before .rows-from .ensures)) in (x .0, x .1, x .2, (c .before .before .before .before .before .before .before .pre .0), (c .before .before .before .before .before .before .before .pre .1))
+
+returns : tie.Need-returns
+returns c = room-good (c .before .before .before .before .before .before .before .before .before .before .before .args .words .now) (c .before .before .before .before .before .before .before .before .before .before .before .args .bytes .now) (c .before .before .before .before .before .before .before .before .before .before .before .pre .0) (c .before .before .before .before .before .before .before .before .before .before .before .pre .1) (c .before .before .before .before .before .before .d .given .0 .0) (c .before .before .before .before .before .before .d .given .0 .1 .0) (c .before .before .before .before .before .before .d .given .0 .1 .1 .0) (c .before .before .before .before .before .before .d .given .0 .1 .1 .1 .0) (rw (c .before .before .before .before .before .before .d .given .1) at (c .before .before .before .before .before .before .before .before .rows-from .ensures)) (sym (c .before .before .both .ensures ∙ ands (c .before .before .before .before .distinct .ensures) (c .before .before .before .zero-behind .ensures)) ∙ c .before .if1 .taken) _ (c .print-length .ensures)
+
+returns-2 : tie.Need-returns-2
+returns-2 c = room-bad (c .before .before .before .before .before .args .words .now) (c .before .before .before .before .before .args .bytes .now) (c .before .before .before .before .before .pre .0) (c .before .before .before .before .before .pre .1) (rw (c .enum-told .given .1) at (c .before .before .rows-from .ensures))
+
+returns-3 : tie.Need-returns-3
+returns-3 c = room-not (c .before .before .before .before .before .before .before .before .before .before .args .words .now) (c .before .before .before .before .before .before .before .before .before .before .args .bytes .now) (c .before .before .before .before .before .before .before .before .before .before .pre .0) (c .before .before .before .before .before .before .before .before .before .before .pre .1) (c .before .before .before .before .before .d .given .0 .0) (c .before .before .before .before .before .d .given .0 .1 .0) (c .before .before .before .before .before .d .given .0 .1 .1 .0) (c .before .before .before .before .before .d .given .0 .1 .1 .1 .0) (rw (c .before .before .before .before .before .d .given .1) at (c .before .before .before .before .before .before .before .rows-from .ensures)) (sym (c .before .both .ensures ∙ ands (c .before .before .before .distinct .ensures) (c .before .before .zero-behind .ensures)) ∙ c .if1 .left)
+
+pub check-room-spec : {M : Type 1} → statement M
+check-room-spec = tie.close (tie.spec
+    rows-from-requires (λ c. search needs) (λ c. search needs) distinct-requires zero-behind-requires (λ c κs. search needs) (λ c κs. search needs)
+    returns returns-2 returns-3)

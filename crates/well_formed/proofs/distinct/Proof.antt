@@ -1,0 +1,45 @@
+use mathlib.Core.Path.{_≡_, refl, sym, _∙_, ap, subst}
+use mathlib.Core.Bool.{Bool, true, false, cond, _&&_}
+use Prim.Native.Nat.{ℕ, zero, suc, _+_, _-_, _*_, _≤_, _<_}
+use lib.ListN.{length}
+use lib.Dec.{ltb, leb, eqb}
+use mathlib.Core.List.{List}
+use Rattle.ad.specs.Stored.{bytesAt, offsetAt, lengthAt, definedIn}
+use Rattle.well_formed.specs.Decode.{newFrom}
+use Rattle.well_formed.proofs.Answer.{new-more, new-stop, new-end, new-all}
+use borrow.Author.Needs.{needs}
+use native.Mathlib.Omega.{arith}
+use Rattle.well_formed.proofs.distinct.Statement.{statement}
+use Rattle.well_formed.proofs.distinct.Tie as tie
+use Rattle.well_formed.proofs.distinct.Reads as reads
+use Rattle.well_formed.proofs.distinct.Lts as lts
+use Rattle.ad.proofs.defined.Reads as defined-reads
+use Rattle.ad.proofs.name_length.Reads as name-length-reads
+use Rattle.ad.proofs.offset.Reads as offset-reads
+use Rattle.ad.proofs.part.Reads as part-reads
+
+abbrev Inv-loop : tie.InvT-loop
+Inv-loop words bytes d j₀ j = (j ≤ d) × (newFrom words bytes j (d - j) ≡ newFrom words bytes 0 d)
+
+abbrev μ-loop : tie.MeasureT-loop
+μ-loop words bytes d j₀ j = d - j
+
+loop-holds : tie.Need-loop-holds Inv-loop μ-loop
+loop-holds c = (omega arith, new-all _ _ _)
+
+returns : tie.Need-returns Inv-loop μ-loop
+returns c = new-stop (c .before .before .before .before .before .before .before .before .before .args .words .now) (c .before .before .before .before .before .before .before .before .before .args .bytes .now) (c .before .before .before .before .before .before .loop .j) (c .before .before .before .before .before .before .before .before .before .args .d) (omega arith) (sym (c .before .defined .ensures ∙ ap (λ (l : List ℕ). definedIn (c .before .before .before .before .before .before .before .before .before .args .words .now) (c .before .before .before .before .before .before .before .before .before .args .bytes .now) l 0 (c .before .before .before .before .before .before .loop .j)) (c .before .before .part .ensures ∙ (λ m. bytesAt (c .before .before .before .before .before .before .before .before .before .args .bytes .now) (c .before .before .before .before .offset .ensures m) (c .before .before .before .name-length .ensures m)))) ∙ c .if1 .taken) ∙ c .before .before .before .before .before .before .loop .inv .1
+
+loop-less : tie.Need-loop-less Inv-loop μ-loop
+loop-less c = omega arith
+
+loop-again : tie.Need-loop-again Inv-loop μ-loop
+loop-again c = (omega arith, sym (new-more (c .before .before .before .before .before .before .before .before .before .args .words .now) (c .before .before .before .before .before .before .before .before .before .args .bytes .now) (c .before .before .before .before .before .before .loop .j) (c .before .before .before .before .before .before .before .before .before .args .d) (omega arith) (sym (c .before .defined .ensures ∙ ap (λ (l : List ℕ). definedIn (c .before .before .before .before .before .before .before .before .before .args .words .now) (c .before .before .before .before .before .before .before .before .before .args .bytes .now) l 0 (c .before .before .before .before .before .before .loop .j)) (c .before .before .part .ensures ∙ (λ m. bytesAt (c .before .before .before .before .before .before .before .before .before .args .bytes .now) (c .before .before .before .before .offset .ensures m) (c .before .before .before .name-length .ensures m)))) ∙ c .if1 .left)) ∙ c .before .before .before .before .before .before .loop .inv .1)
+
+returns-2 : tie.Need-returns-2 Inv-loop μ-loop
+returns-2 c = new-end (c .before .before .before .before .args .words .now) (c .before .before .before .before .args .bytes .now) (c .before .loop .j) (c .before .before .before .before .args .d) (omega arith) ∙ c .before .loop .inv .1
+
+pub distinct-spec : {M : Type 1} → statement M
+distinct-spec = tie.close (tie.spec
+    Inv-loop μ-loop loop-holds (λ c κs. search needs) (λ c κs. search needs) (λ c κs. search needs) (λ c κs. search needs) returns (λ c. search needs)
+    loop-less loop-again returns-2)

@@ -1,0 +1,19 @@
+use mathlib.Core.Path.{_≡_, refl, sym, _∙_, ap, subst}
+use mathlib.Core.Bool.{Bool, true, false, cond, _&&_}
+use Prim.Native.Nat.{ℕ, zero, suc, _+_, _-_, _*_, _≤_, _<_}
+use lib.ListN.{length}
+use lib.Dec.{ltb, leb, eqb}
+use Rattle.well_formed.proofs.Tests.{follows-not}
+use native.Mathlib.Omega.{arith}
+use borrow.Author.Needs.{needs}
+use Rattle.well_formed.proofs.follows.Statement.{statement}
+use Rattle.well_formed.proofs.follows.Tie as tie
+use Rattle.well_formed.proofs.follows.Reads as reads
+use Rattle.well_formed.proofs.follows.Lts as lts
+
+returns-2 : tie.Need-returns-2
+returns-2 c = follows-not (c .before .args .x) (c .before .args .i) (c .if1 .left)
+
+pub follows-spec : {M : Type 1} → statement M
+follows-spec = tie.close (tie.spec
+    (λ c. search needs) (λ c. search needs) returns-2)

@@ -1,0 +1,25 @@
+use mathlib.Core.Path.{_≡_, refl, sym, _∙_, ap, subst}
+use mathlib.Core.Bool.{Bool, true, false, cond, _&&_}
+use Prim.Native.Nat.{ℕ, zero, suc, _+_, _-_, _*_, _≤_, _<_}
+use lib.ListN.{length}
+use lib.Dec.{ltb, leb, eqb}
+use Rattle.well_formed.proofs.Tests.{walk-if, walk-bad}
+use Rattle.well_formed.specs.Decode.{integerFits, plainWalk}
+use native.Mathlib.Omega.{arith}
+use borrow.Author.Needs.{needs}
+use Rattle.well_formed.proofs.integer_walk.Statement.{statement}
+use Rattle.well_formed.proofs.integer_walk.Tie as tie
+use Rattle.well_formed.proofs.integer_walk.Reads as reads
+use Rattle.well_formed.proofs.integer_walk.Lts as lts
+use Rattle.lexemes.proofs.both.Reads as both-reads
+use Rattle.lexemes.proofs.decimal_length.Reads as decimal-length-reads
+
+returns : tie.Need-returns
+returns c = ap (plainWalk (c .before .before .before .args .o)) (c .decimal-length .ensures .0) ∙ walk-if (integerFits (c .before .before .before .args .x) (c .before .before .before .args .y)) _ (sym (c .before .before .both .ensures) ∙ c .before .if1 .taken)
+
+returns-2 : tie.Need-returns-2
+returns-2 c = walk-bad (integerFits (c .before .before .args .x) (c .before .before .args .y)) _ (sym (c .before .both .ensures) ∙ c .if1 .left)
+
+pub integer-walk-spec : {M : Type 1} → statement M
+integer-walk-spec = tie.close (tie.spec
+    (λ c κs. search needs) (λ c κs. search needs) returns returns-2)

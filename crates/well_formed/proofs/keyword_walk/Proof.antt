@@ -1,0 +1,24 @@
+use mathlib.Core.Path.{_≡_, refl, sym, _∙_, ap, subst}
+use mathlib.Core.Bool.{Bool, true, false, cond, _&&_}
+use Prim.Native.Nat.{ℕ, zero, suc, _+_, _-_, _*_, _≤_, _<_}
+use lib.ListN.{length}
+use lib.Dec.{ltb, leb, eqb}
+use Rattle.well_formed.proofs.Tests.{walk-if, walk-bad}
+use Rattle.well_formed.specs.Decode.{keywordFits}
+use native.Mathlib.Omega.{arith}
+use borrow.Author.Needs.{needs}
+use Rattle.well_formed.proofs.keyword_walk.Statement.{statement}
+use Rattle.well_formed.proofs.keyword_walk.Tie as tie
+use Rattle.well_formed.proofs.keyword_walk.Reads as reads
+use Rattle.well_formed.proofs.keyword_walk.Lts as lts
+use Rattle.lexemes.proofs.both.Reads as both-reads
+
+returns : tie.Need-returns
+returns c = walk-if (keywordFits (c .before .before .args .x) (c .before .before .args .y)) _ (sym (c .before .both .ensures) ∙ c .if1 .taken)
+
+returns-2 : tie.Need-returns-2
+returns-2 c = walk-bad (keywordFits (c .before .before .args .x) (c .before .before .args .y)) _ (sym (c .before .both .ensures) ∙ c .if1 .left)
+
+pub keyword-walk-spec : {M : Type 1} → statement M
+keyword-walk-spec = tie.close (tie.spec
+    (λ c κs. search needs) returns returns-2)

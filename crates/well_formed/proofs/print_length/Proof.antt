@@ -1,0 +1,22 @@
+use mathlib.Core.Path.{_≡_, refl, sym, _∙_, ap, subst}
+use mathlib.Core.Bool.{Bool, true, false, cond, _&&_}
+use Prim.Native.Nat.{ℕ, zero, suc, _+_, _-_, _*_, _≤_, _<_}
+use lib.ListN.{length}
+use lib.Dec.{ltb, leb, eqb}
+use borrow.Author.Tests.{eq-eqb, ne-eqb}
+use borrow.Author.Needs.{needs}
+use native.Mathlib.Omega.{arith}
+use Rattle.well_formed.proofs.print_length.Statement.{statement}
+use Rattle.well_formed.proofs.print_length.Tie as tie
+use Rattle.well_formed.proofs.print_length.Reads as reads
+use Rattle.well_formed.proofs.print_length.Lts as lts
+
+returns : tie.Need-returns
+returns c = rw (c .if1 .taken) refl
+
+returns-2 : tie.Need-returns-2
+returns-2 c = rw (ne-eqb _ _ (c .if1 .left)) refl
+
+pub print-length-spec : {M : Type 1} → statement M
+print-length-spec = tie.close (tie.spec
+    returns returns-2)

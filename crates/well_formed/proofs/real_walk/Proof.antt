@@ -1,0 +1,29 @@
+use mathlib.Core.Path.{_≡_, refl, sym, _∙_, ap, subst}
+use mathlib.Core.Bool.{Bool, true, false, cond, _&&_}
+use Prim.Native.Nat.{ℕ, zero, suc, _+_, _-_, _*_, _≤_, _<_}
+use lib.ListN.{length}
+use lib.Dec.{ltb, leb, eqb}
+use Rattle.well_formed.proofs.Tests.{walk-if, walk-bad, places-few}
+use Rattle.well_formed.specs.Decode.{plainWalk}
+use Rattle.lexemes.specs.Lexeme.{isReal}
+use native.Mathlib.Omega.{arith}
+use borrow.Author.Needs.{needs}
+use Rattle.well_formed.proofs.real_walk.Statement.{statement}
+use Rattle.well_formed.proofs.real_walk.Tie as tie
+use Rattle.well_formed.proofs.real_walk.Reads as reads
+use Rattle.well_formed.proofs.real_walk.Lts as lts
+use Rattle.lexemes.proofs.is_real.Reads as is-real-reads
+use Rattle.lexemes.proofs.real_length.Reads as real-length-reads
+
+real-length-requires : tie.Need-real-length-requires
+real-length-requires c κs = places-few (c .before .before .args .x) (c .before .before .args .y) (sym (c .before .is-real .ensures) ∙ c .if1 .taken)
+
+returns : tie.Need-returns
+returns c = ap (plainWalk (c .before .before .before .args .o)) (c .real-length .ensures .0) ∙ walk-if (isReal (c .before .before .before .args .x) (c .before .before .before .args .y)) _ (sym (c .before .before .is-real .ensures) ∙ c .before .if1 .taken)
+
+returns-2 : tie.Need-returns-2
+returns-2 c = walk-bad (isReal (c .before .before .args .x) (c .before .before .args .y)) _ (sym (c .before .is-real .ensures) ∙ c .if1 .left)
+
+pub real-walk-spec : {M : Type 1} → statement M
+real-walk-spec = tie.close (tie.spec
+    (λ c κs. search needs) real-length-requires returns returns-2)

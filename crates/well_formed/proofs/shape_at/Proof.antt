@@ -1,0 +1,21 @@
+use mathlib.Core.Path.{_≡_, refl, sym, _∙_, ap, subst}
+use mathlib.Core.Bool.{Bool, true, false, cond, _&&_}
+use Prim.Native.Nat.{ℕ, zero, suc, _+_, _-_, _*_, _≤_, _<_}
+use lib.ListN.{length}
+use lib.Dec.{ltb, leb, eqb}
+use native.Mathlib.Omega.{arith}
+use borrow.Author.Needs.{needs}
+use Rattle.well_formed.proofs.shape_at.Statement.{statement}
+use Rattle.well_formed.proofs.shape_at.Tie as tie
+use Rattle.well_formed.proofs.shape_at.Reads as reads
+use Rattle.well_formed.proofs.shape_at.Lts as lts
+use Rattle.ad.proofs.kind.Reads as kind-reads
+use Rattle.ad.proofs.operand.Reads as operand-reads
+use Rattle.well_formed.proofs.shape_of.Reads as shape-of-reads
+
+returns : tie.Need-returns
+returns c = cc
+
+pub shape-at-spec : {M : Type 1} → statement M
+shape-at-spec = tie.close (tie.spec
+    (λ c κs. search needs) (λ c κs. search needs) (λ c κs. search needs) (λ c κs. search needs) (λ c κs. search needs) returns)

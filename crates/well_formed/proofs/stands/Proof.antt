@@ -1,0 +1,20 @@
+use mathlib.Core.Path.{_≡_, refl, sym, _∙_, ap, subst}
+use mathlib.Core.Bool.{Bool, true, false, cond, _&&_}
+use Prim.Native.Nat.{ℕ, zero, suc, _+_, _-_, _*_, _≤_, _<_}
+use lib.ListN.{length}
+use lib.Dec.{ltb, leb, eqb}
+use native.Mathlib.Omega.{arith}
+use borrow.Author.Needs.{needs}
+use Rattle.well_formed.proofs.stands.Statement.{statement}
+use Rattle.well_formed.proofs.stands.Tie as tie
+use Rattle.well_formed.proofs.stands.Reads as reads
+use Rattle.well_formed.proofs.stands.Lts as lts
+use Rattle.ad.proofs.part.Reads as part-reads
+use Rattle.lexemes.proofs.both.Reads as both-reads
+
+returns : tie.Need-returns
+returns c = c .both .ensures ∙ rw (c .before .part .ensures) refl
+
+pub stands-spec : {M : Type 1} → statement M
+stands-spec = tie.close (tie.spec
+    (λ c κs. search needs) (λ c κs. search needs) returns)

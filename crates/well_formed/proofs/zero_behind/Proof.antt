@@ -1,0 +1,26 @@
+use mathlib.Core.Path.{_≡_, refl, sym, _∙_, ap, subst}
+use mathlib.Core.Bool.{Bool, true, false, cond, _&&_}
+use Prim.Native.Nat.{ℕ, zero, suc, _+_, _-_, _*_, _≤_, _<_}
+use lib.ListN.{length}
+use lib.Dec.{ltb, leb, eqb}
+use Rattle.well_formed.proofs.Tests.{ands, rest-all}
+use Rattle.lexemes.specs.Lexeme.{every}
+use Rattle.well_formed.specs.Decode.{isZero}
+use native.Mathlib.Omega.{arith}
+use borrow.Author.Needs.{needs}
+use Rattle.well_formed.proofs.zero_behind.Statement.{statement}
+use Rattle.well_formed.proofs.zero_behind.Tie as tie
+use Rattle.well_formed.proofs.zero_behind.Reads as reads
+use Rattle.well_formed.proofs.zero_behind.Lts as lts
+use Rattle.lexemes.proofs.both.Reads as both-reads
+use Rattle.well_formed.proofs.zero_bytes.Reads as zero-bytes-reads
+use Rattle.well_formed.proofs.zero_words.Reads as zero-words-reads
+
+returns : tie.Need-returns
+returns c = c .both2 .ensures ∙ ands (c .before .before .before .before .before .before .zero-words .ensures) (c .before .both .ensures ∙ ands (c .before .before .before .before .zero-words2 .ensures ∙ ap (every isZero) (rest-all (c .before .before .before .before .before .before .before .before .before .before .args .words .now) (4096 + 3 * c .before .before .before .before .before .before .before .before .before .before .args .d))) (c .before .before .zero-bytes .ensures ∙ ap (every isZero) (rest-all (c .before .before .before .before .before .before .before .before .before .before .args .bytes .now) (c .before .before .before .before .before .before .before .before .before .before .args .k))))
+
+pub zero-behind-spec : {M : Type 1} → statement M
+zero-behind-spec = tie.close (tie.spec
+    (λ c. search needs) (λ c. search needs) (λ c. search needs) (λ c. search needs) (λ c. search needs) (λ c. search needs) (λ c. search needs)
+    (λ c κs. search needs) (λ c. search needs) (λ c. search needs) (λ c. search needs) (λ c. search needs) (λ c κs. search needs) (λ c. search needs)
+    (λ c. search needs) (λ c. search needs) (λ c κs. search needs) (λ c κs. search needs) (λ c κs. search needs) returns)

@@ -1,0 +1,235 @@
+-- The tree that is found is the one that stands there, and one that stands there is found. Assumes nothing.
+use Prim.Native.Nat.{ℕ, zero, suc, _+_, _-_, _*_, _≤_, _<_}
+use native.Mathlib.Omega.{arith}
+use mathlib.Core.Path.{_≡_, refl, sym, _∙_, ap, subst}
+use mathlib.Core.Bool.{Bool, true, false, _&&_}
+use mathlib.Core.List.{List, [], _∷_, _++_, append-nil}
+use lib.ListN.{length, length-append}
+use Rattle.syntax.specs.Tree.{Literal, Scope, Expr, literal, reference, unary, binary, conditional, size}
+use Rattle.syntax.specs.declared.Binary.{Binary}
+use Rattle.syntax.specs.declared.Unary.{Unary}
+use Rattle.ad.specs.Layout.{unaryKind, binaryKind, node, literalNode, exprBytes, exprNodes}
+use Rattle.ad.specs.Stored.{kindAt, operandAt, unaryOf, binaryOf}
+use Rattle.ad.specs.Laws.Content.{unary-found, unary-range, binary-found, binary-high, binary-low, length-nodes, size-some}
+use Rattle.well_formed.specs.WellFormed.{isWritable}
+use Rattle.well_formed.specs.Decode.{Found, got, bad, chain, shapeOf, shapeAt, onShape, leafAt, treeAt}
+use Rattle.well_formed.specs.Laws.Runs.{Stands, stands-at, stands-as, stands-join, stands-left, stands-right, node-of, kind-is, first-is, second-is, third-is}
+use Rattle.well_formed.specs.Laws.Shapes.{and-left, and-right, and-both, Facts, shape-facts, leaf-shape, one-shape, two-shape, three-shape}
+use Rattle.well_formed.specs.Laws.Leaves.{All, on-chain, Run, leaf-sound, literal-complete, name-complete}
+use Rattle.well_formed.specs.declared.Shape.{Shape}
+use Rattle.well_formed.specs.declared.Shape.the-variants.{Leaf, One, Two, Three, Nothing}
+
+-- ---- kinds
+
+unary-kind : (m : ℕ) → m < 3 → unaryKind (unaryOf (9 + m)) ≡ 9 + m
+unfolding unaryOf
+unary-kind zero h = refl
+unary-kind (suc zero) h = refl
+unary-kind (suc (suc zero)) h = refl
+unary-kind (suc (suc (suc m))) h = absurd (omega arith)
+
+pub unary-kind-of : (k : ℕ) → 9 ≤ k → k < 12 → unaryKind (unaryOf k) ≡ k
+unary-kind-of k h h′ = let e : 9 + (k - 9) ≡ k = omega arith in subst (λ (n : ℕ). unaryKind (unaryOf n) ≡ n) e (unary-kind (k - 9) (omega arith))
+
+binary-kind : (m : ℕ) → m < 15 → binaryKind (binaryOf (13 + m)) ≡ 13 + m
+unfolding binaryOf
+binary-kind zero h = refl
+binary-kind (suc zero) h = refl
+binary-kind (suc (suc zero)) h = refl
+binary-kind (suc (suc (suc zero))) h = refl
+binary-kind (suc (suc (suc (suc zero)))) h = refl
+binary-kind (suc (suc (suc (suc (suc zero))))) h = refl
+binary-kind (suc (suc (suc (suc (suc (suc zero)))))) h = refl
+binary-kind (suc (suc (suc (suc (suc (suc (suc zero))))))) h = refl
+binary-kind (suc (suc (suc (suc (suc (suc (suc (suc zero)))))))) h = refl
+binary-kind (suc (suc (suc (suc (suc (suc (suc (suc (suc zero))))))))) h = refl
+binary-kind (suc (suc (suc (suc (suc (suc (suc (suc (suc (suc zero)))))))))) h = refl
+binary-kind (suc (suc (suc (suc (suc (suc (suc (suc (suc (suc (suc zero))))))))))) h = refl
+binary-kind (suc (suc (suc (suc (suc (suc (suc (suc (suc (suc (suc (suc zero)))))))))))) h = refl
+binary-kind (suc (suc (suc (suc (suc (suc (suc (suc (suc (suc (suc (suc (suc zero))))))))))))) h = refl
+binary-kind (suc (suc (suc (suc (suc (suc (suc (suc (suc (suc (suc (suc (suc (suc zero)))))))))))))) h = refl
+binary-kind (suc (suc (suc (suc (suc (suc (suc (suc (suc (suc (suc (suc (suc (suc (suc m))))))))))))))) h = absurd (omega arith)
+
+pub binary-kind-of : (k : ℕ) → 12 < k → k < 28 → binaryKind (binaryOf k) ≡ k
+binary-kind-of k h h′ = let e : 13 + (k - 13) ≡ k = omega arith in subst (λ (n : ℕ). binaryKind (binaryOf n) ≡ n) e (binary-kind (k - 13) (omega arith))
+
+-- ---- the runs of an operator and of its operands
+
+-- behind the words of an operand
+behind : {w b : List ℕ} {s u o : ℕ} {p : Expr} → Run w b s u o p → 4 * s + length (exprNodes s o p) ≡ 4 * (u + 1)
+behind {s = s} {o = o} {p} r = omega (arith, length-nodes s o p, r .long)
+
+numbers : {n n′ : ℕ} (q : ℕ) (e : Expr) → n ≡ n′ → exprNodes n q e ≡ exprNodes n′ q e
+numbers q e h = ap (λ (n : ℕ). exprNodes n q e) h
+
+module _ {w b : List ℕ} {s u o i : ℕ} where
+  pub run-unary : {p : Expr} (j : Unary) → Run w b s u o p → u + 1 ≡ i → Stands w (4 * i) (node (unaryKind j) u 0 0) → Run w b s i o (unary j p)
+  unfolding isWritable size exprNodes exprBytes
+  run-unary {p} j r e n =
+      let h : u ≡ s + size p - 1 = omega (arith, r .long) in
+      let g : 4 * i ≡ 4 * s + length (exprNodes s o p) = omega (arith, behind r) in
+      record {
+        writable = r .writable;
+        long = omega (arith, r .long);
+        words = stands-join (r .words) (stands-at g (stands-as (ap (λ (x : ℕ). node (unaryKind j) x 0 0) h) n));
+        bytes = r .bytes;
+      }
+
+  pub run-binary : {v : ℕ} {p q : Expr} (j : Binary) → Run w b s u o p → Run w b (u + 1) v (o + length (exprBytes p)) q → v + 1 ≡ i →
+      Stands w (4 * i) (node (binaryKind j) u v 0) → Run w b s i o (binary j p q)
+  unfolding isWritable size exprNodes exprBytes
+  run-binary {v} {p} {q} j r t e n =
+      let O = o + length (exprBytes p) in
+      let h : u ≡ s + size p - 1 = omega (arith, r .long) in
+      let k : v ≡ s + size p + size q - 1 = omega (arith, r .long, t .long) in
+      let c : u + 1 ≡ s + size p = omega (arith, r .long) in
+      let g : 4 * (u + 1) ≡ 4 * s + length (exprNodes s o p) = omega (arith, behind r) in
+      let l : 4 * i ≡ 4 * (u + 1) + length (exprNodes (u + 1) O q) = omega (arith, length-nodes (u + 1) O q, t .long) in
+      record {
+        writable = and-both (r .writable) (t .writable);
+        long = omega (arith, r .long, t .long);
+        words = stands-join (r .words) (stands-at g (stands-as (ap (λ (x : List ℕ). x ++ node (binaryKind j) (s + size p - 1) (s + size p + size q - 1) 0) (numbers O q c))
+            (stands-join (t .words) (stands-at l (stands-as (λ m. node (binaryKind j) (h m) (k m) 0) n)))));
+        bytes = stands-join (r .bytes) (t .bytes);
+      }
+
+  pub run-conditional : {v x : ℕ} {p q c : Expr} → Run w b s u o p → Run w b (u + 1) v (o + length (exprBytes p)) q →
+      Run w b (v + 1) x (o + length (exprBytes p) + length (exprBytes q)) c → x + 1 ≡ i →
+      Stands w (4 * i) (node 12 u v x) → Run w b s i o (conditional p q c)
+  unfolding isWritable size exprNodes exprBytes
+  run-conditional {v} {x} {p} {q} {c} r t y e n =
+      let O = o + length (exprBytes p) in
+      let O′ = o + length (exprBytes p) + length (exprBytes q) in
+      let h : u ≡ s + size p - 1 = omega (arith, r .long) in
+      let k : v ≡ s + size p + size q - 1 = omega (arith, r .long, t .long) in
+      let m : x ≡ s + size p + size q + size c - 1 = omega (arith, r .long, t .long, y .long) in
+      let c₁ : u + 1 ≡ s + size p = omega (arith, r .long) in
+      let c₂ : v + 1 ≡ s + size p + size q = omega (arith, r .long, t .long) in
+      let g : 4 * (u + 1) ≡ 4 * s + length (exprNodes s o p) = omega (arith, behind r) in
+      let l : 4 * (v + 1) ≡ 4 * (u + 1) + length (exprNodes (u + 1) O q) = omega (arith, length-nodes (u + 1) O q, t .long) in
+      let f : 4 * i ≡ 4 * (v + 1) + length (exprNodes (v + 1) O′ c) = omega (arith, length-nodes (v + 1) O′ c, y .long) in
+      let N = node 12 (s + size p - 1) (s + size p + size q - 1) (s + size p + size q + size c - 1) in
+      record {
+        writable = and-both (r .writable) (and-both (t .writable) (y .writable));
+        long = omega (arith, r .long, t .long, y .long);
+        words = stands-join (r .words) (stands-at g (stands-as (λ z. numbers O q c₁ z ++ (numbers O′ c c₂ z ++ N))
+            (stands-join (t .words) (stands-at l (stands-join (y .words) (stands-at f (stands-as (λ z. node 12 (h z) (k z) (m z)) n)))))));
+        bytes = stands-join (r .bytes) (stands-join (t .bytes) (y .bytes));
+      }
+
+-- ---- SOUND
+
+module _ (P : Expr → Type 0) (s i k x y z : ℕ) where
+  on-shape : (r : Shape) (l : Unit {0} → Found) (f : ℕ → Found) (g : ℕ → ℕ → Found) (h : ℕ → ℕ → ℕ → Found) → Facts s i k x y z r →
+      (Facts s i k x y z Leaf → All P (l tt)) →
+      ((u : ℕ) → Facts s i k x y z (One u) → All P (f u)) →
+      ((u v : ℕ) → Facts s i k x y z (Two u v) → All P (g u v)) →
+      ((u v t : ℕ) → Facts s i k x y z (Three u v t) → All P (h u v t)) → All P (onShape r l f g h)
+  on-shape Leaf l f g h F a c d e = a F
+  on-shape (One u) l f g h F a c d e = c u F
+  on-shape (Two u v) l f g h F a c d e = d u v F
+  on-shape (Three u v t) l f g h F a c d e = e u v t F
+  on-shape Nothing l f g h F a c d e = tt
+
+pub tree-sound : (f : ℕ) (w b : List ℕ) (s i o : ℕ) → 4 * i + 4 ≤ length w → All (Run w b s i o) (treeAt f w b s i o)
+unfolding treeAt
+tree-sound zero w b s i o h = tt
+tree-sound (suc f) w b s i o h =
+    let k = kindAt w i in
+    let x = operandAt w i 0 in
+    let y = operandAt w i 1 in
+    let z = operandAt w i 2 in
+    let Q = Run w b s i o in
+    on-shape Q s i k x y z (shapeAt w s i) _ _ _ _ (shape-facts s i k x y z)
+    (λ F. subst (λ (m : ℕ). All (Run w b m i o) (leafAt w b i o)) (sym (F .1)) (leaf-sound w b i o h))
+    (λ u F. on-chain _ Q (treeAt f w b s u o) _ (tree-sound f w b s u o (omega arith)) λ p r.
+    run-unary (unaryOf k) r (omega arith) (node-of w i (unaryKind (unaryOf k)) u 0 0 h (sym (unary-kind-of k (F .1) (F .2))) (sym (F .0)) (F .5) (F .6)))
+    (λ u v F. on-chain _ Q (treeAt f w b s u o) _ (tree-sound f w b s u o (omega arith)) λ p r.
+    on-chain _ Q (treeAt f w b (u + 1) v (o + length (exprBytes p))) _ (tree-sound f w b (u + 1) v (o + length (exprBytes p)) (omega arith)) λ q t.
+    run-binary (binaryOf k) r t (omega arith) (node-of w i (binaryKind (binaryOf k)) u v 0 h (sym (binary-kind-of k (F .2) (F .3))) (sym (F .0)) (sym (F .1)) (F .7)))
+    (λ u v m F. on-chain _ Q (treeAt f w b s u o) _ (tree-sound f w b s u o (omega arith)) λ p r.
+    on-chain _ Q (treeAt f w b (u + 1) v (o + length (exprBytes p))) _ (tree-sound f w b (u + 1) v (o + length (exprBytes p)) (omega arith)) λ q t.
+    on-chain _ Q (treeAt f w b (v + 1) m (o + length (exprBytes p) + length (exprBytes q))) _ (tree-sound f w b (v + 1) m (o + length (exprBytes p) + length (exprBytes q)) (omega arith)) λ c y.
+    run-conditional r t y (omega arith) (node-of w i 12 u v m h (F .3) (sym (F .0)) (sym (F .1)) (sym (F .2))))
+
+-- ---- COMPLETE
+
+module _ {w b : List ℕ} {s o : ℕ} where
+  -- an operand's own run, and what stands behind its words
+  first-run : (p : Expr) (X Y : List ℕ) → isWritable p ≡ true → Stands w (4 * s) (exprNodes s o p ++ X) → Stands b o (exprBytes p ++ Y) →
+      Run w b s (s + size p - 1) o p × Stands w (4 * (s + size p)) X × Stands b (o + length (exprBytes p)) Y
+  first-run p X Y h n m =
+      let e : 4 * s + length (exprNodes s o p) ≡ 4 * (s + size p) = omega (arith, length-nodes s o p) in (
+        record {
+          writable = h;
+          long = omega (arith, size-some p);
+          words = stands-left w (exprNodes s o p) X (4 * s) n;
+          bytes = stands-left b (exprBytes p) Y o m;
+        },
+        stands-at e (stands-right w (exprNodes s o p) X (4 * s) n),
+        stands-right b (exprBytes p) Y o m,
+      )
+
+pub tree-complete : (e : Expr) (w b : List ℕ) (s i o : ℕ) → Run w b s i o e → (f : ℕ) → i < f + s → treeAt f w b s i o ≡ got e
+unfolding treeAt isWritable size exprNodes exprBytes
+tree-complete e w b s i o r zero h = absurd (omega (arith, r .long, size-some e))
+tree-complete (literal l) w b s i o r (suc f) h =
+    let e : s ≡ i = omega (arith, r .long) in
+    let c = literal-complete w b i o l (r .writable) (stands-at (ap (_*_ 4) e) (r .words)) (r .bytes) in
+    rw (leaf-shape s i (kindAt w i) (operandAt w i 0) (operandAt w i 1) (operandAt w i 2) (c .1) e) (c .0)
+tree-complete (reference m l) w b s i o r (suc f) h =
+    let e : s ≡ i = omega (arith, r .long) in
+    let c = name-complete w b i o m l (r .writable) (stands-at (ap (_*_ 4) e) (r .words)) (r .bytes) in
+    rw (leaf-shape s i (kindAt w i) (operandAt w i 0) (operandAt w i 1) (operandAt w i 2) (c .1) e) (c .0)
+tree-complete (unary j p) w b s i o r (suc f) h =
+    let N = node (unaryKind j) (s + size p - 1) 0 0 in
+    let y = first-run p N [] (r .writable) (r .words) (stands-as (sym (append-nil (exprBytes p))) (r .bytes)) in
+    let c : s + size p ≡ i = omega (arith, r .long) in
+    let n = stands-at (ap (_*_ 4) c) (y .1) in
+    let k = kind-is w i _ _ _ _ n in
+    let x₁ = first-is w i _ _ _ _ n in
+    let x₂ = second-is w i _ _ _ _ n in
+    let x₃ = third-is w i _ _ _ _ n in
+    let g = unary-range j in
+    let z = size-some p in
+    let sh : shapeAt w s i ≡ One (s + size p - 1) = one-shape s i (kindAt w i) (operandAt w i 0) (operandAt w i 1) (operandAt w i 2) (omega arith) (omega arith) (omega arith) (omega arith) x₂ x₃ ∙ ap One x₁ in
+    rw (sh, tree-complete p w b s (s + size p - 1) o (y .0) f (omega arith), k, unary-found j) refl
+tree-complete (binary j p q) w b s i o r (suc f) h =
+    let O = o + length (exprBytes p) in
+    let N = node (binaryKind j) (s + size p - 1) (s + size p + size q - 1) 0 in
+    let y = first-run p (exprNodes (s + size p) O q ++ N) (exprBytes q) (and-left (isWritable p) (isWritable q) (r .writable)) (r .words) (r .bytes) in
+    let t = first-run q N [] (and-right (isWritable p) (isWritable q) (r .writable)) (y .1) (stands-as (sym (append-nil (exprBytes q))) (y .2)) in
+    let c : s + size p + size q ≡ i = omega (arith, r .long) in
+    let n = stands-at (ap (_*_ 4) c) (t .1) in
+    let k = kind-is w i _ _ _ _ n in
+    let x₁ = first-is w i _ _ _ _ n in
+    let x₂ = second-is w i _ _ _ _ n in
+    let x₃ = third-is w i _ _ _ _ n in
+    let g = binary-high j in
+    let g′ = binary-low j in
+    let z = size-some p in
+    let z′ = size-some q in
+    let e : s + size p - 1 + 1 ≡ s + size p = omega arith in
+    let sh : shapeAt w s i ≡ Two (s + size p - 1) (s + size p + size q - 1) = two-shape s i (kindAt w i) (operandAt w i 0) (operandAt w i 1) (operandAt w i 2) (omega arith) (omega arith) (omega arith) (omega arith) (omega arith) x₃ ∙ (λ m. Two (x₁ m) (x₂ m)) in
+    rw (sh, tree-complete p w b s (s + size p - 1) o (y .0) f (omega arith), e, tree-complete q w b (s + size p) (s + size p + size q - 1) O (t .0) f (omega arith), k, binary-found j) refl
+tree-complete (conditional p q c) w b s i o r (suc f) h =
+    let O = o + length (exprBytes p) in
+    let O′ = o + length (exprBytes p) + length (exprBytes q) in
+    let N = node 12 (s + size p - 1) (s + size p + size q - 1) (s + size p + size q + size c - 1) in
+    let d = and-right (isWritable p) (isWritable q && isWritable c) (r .writable) in
+    let y = first-run p (exprNodes (s + size p) O q ++ (exprNodes (s + size p + size q) O′ c ++ N)) (exprBytes q ++ exprBytes c) (and-left (isWritable p) (isWritable q && isWritable c) (r .writable)) (r .words) (r .bytes) in
+    let t = first-run q (exprNodes (s + size p + size q) O′ c ++ N) (exprBytes c) (and-left (isWritable q) (isWritable c) d) (y .1) (y .2) in
+    let v = first-run c N [] (and-right (isWritable q) (isWritable c) d) (t .1) (stands-as (sym (append-nil (exprBytes c))) (t .2)) in
+    let a : s + size p + size q + size c ≡ i = omega (arith, r .long) in
+    let n = stands-at (ap (_*_ 4) a) (v .1) in
+    let k = kind-is w i _ _ _ _ n in
+    let x₁ = first-is w i _ _ _ _ n in
+    let x₂ = second-is w i _ _ _ _ n in
+    let x₃ = third-is w i _ _ _ _ n in
+    let z = size-some p in
+    let z′ = size-some q in
+    let z″ = size-some c in
+    let e : s + size p - 1 + 1 ≡ s + size p = omega arith in
+    let e′ : s + size p + size q - 1 + 1 ≡ s + size p + size q = omega arith in
+    let sh : shapeAt w s i ≡ Three (s + size p - 1) (s + size p + size q - 1) (s + size p + size q + size c - 1) = three-shape s i (kindAt w i) (operandAt w i 0) (operandAt w i 1) (operandAt w i 2) k (omega arith) (omega arith) (omega arith) (omega arith) ∙ (λ m. Three (x₁ m) (x₂ m) (x₃ m)) in
+    rw (sh, tree-complete p w b s (s + size p - 1) o (y .0) f (omega arith), e, tree-complete q w b (s + size p) (s + size p + size q - 1) O (t .0) f (omega arith), e′, tree-complete c w b (s + size p + size q) (s + size p + size q + size c - 1) O′ (v .0) f (omega arith)) refl
