@@ -3,6 +3,7 @@ pub mod Runs
 pub mod Shapes
 pub mod Leaves
 pub mod Trees
+pub mod Operands
 pub mod Prints
 pub mod Definitions
 pub mod Whole

@@ -170,66 +170,100 @@ module _ {w b : List ℕ} {s o : ℕ} where
         stands-right b (exprBytes p) Y o m,
       )
 
+module _ {w b : List ℕ} {s i o : ℕ} where
+  -- the node of an operator, and the runs of its operands
+  pub unary-parts : (j : Unary) (p : Expr) → Run w b s i o (unary j p) →
+      (kindAt w i ≡ unaryKind j) × (operandAt w i 0 ≡ s + size p - 1) × (operandAt w i 1 ≡ 0) × (operandAt w i 2 ≡ 0) × Run w b s (s + size p - 1) o p
+  unfolding isWritable size exprNodes exprBytes
+  unary-parts j p r =
+      let N = node (unaryKind j) (s + size p - 1) 0 0 in
+      let y = first-run p N [] (r .writable) (r .words) (stands-as (sym (append-nil (exprBytes p))) (r .bytes)) in
+      let c : s + size p ≡ i = omega (arith, r .long) in
+      let n = stands-at (ap (_*_ 4) c) (y .1) in
+      (kind-is w i _ _ _ _ n, first-is w i _ _ _ _ n, second-is w i _ _ _ _ n, third-is w i _ _ _ _ n, y .0)
+
+  pub binary-parts : (j : Binary) (p q : Expr) → Run w b s i o (binary j p q) →
+      (kindAt w i ≡ binaryKind j) × (operandAt w i 0 ≡ s + size p - 1) × (operandAt w i 1 ≡ s + size p + size q - 1) × (operandAt w i 2 ≡ 0)
+      × Run w b s (s + size p - 1) o p × Run w b (s + size p) (s + size p + size q - 1) (o + length (exprBytes p)) q
+  unfolding isWritable size exprNodes exprBytes
+  binary-parts j p q r =
+      let O = o + length (exprBytes p) in
+      let N = node (binaryKind j) (s + size p - 1) (s + size p + size q - 1) 0 in
+      let y = first-run p (exprNodes (s + size p) O q ++ N) (exprBytes q) (and-left (isWritable p) (isWritable q) (r .writable)) (r .words) (r .bytes) in
+      let t = first-run q N [] (and-right (isWritable p) (isWritable q) (r .writable)) (y .1) (stands-as (sym (append-nil (exprBytes q))) (y .2)) in
+      let c : s + size p + size q ≡ i = omega (arith, r .long) in
+      let n = stands-at (ap (_*_ 4) c) (t .1) in
+      (kind-is w i _ _ _ _ n, first-is w i _ _ _ _ n, second-is w i _ _ _ _ n, third-is w i _ _ _ _ n, y .0, t .0)
+
+  pub conditional-parts : (p q c : Expr) → Run w b s i o (conditional p q c) →
+      (kindAt w i ≡ 12) × (operandAt w i 0 ≡ s + size p - 1) × (operandAt w i 1 ≡ s + size p + size q - 1) × (operandAt w i 2 ≡ s + size p + size q + size c - 1)
+      × Run w b s (s + size p - 1) o p × Run w b (s + size p) (s + size p + size q - 1) (o + length (exprBytes p)) q
+      × Run w b (s + size p + size q) (s + size p + size q + size c - 1) (o + length (exprBytes p) + length (exprBytes q)) c
+  unfolding isWritable size exprNodes exprBytes
+  conditional-parts p q c r =
+      let O = o + length (exprBytes p) in
+      let O′ = o + length (exprBytes p) + length (exprBytes q) in
+      let N = node 12 (s + size p - 1) (s + size p + size q - 1) (s + size p + size q + size c - 1) in
+      let d = and-right (isWritable p) (isWritable q && isWritable c) (r .writable) in
+      let y = first-run p (exprNodes (s + size p) O q ++ (exprNodes (s + size p + size q) O′ c ++ N)) (exprBytes q ++ exprBytes c) (and-left (isWritable p) (isWritable q && isWritable c) (r .writable)) (r .words) (r .bytes) in
+      let t = first-run q (exprNodes (s + size p + size q) O′ c ++ N) (exprBytes c) (and-left (isWritable q) (isWritable c) d) (y .1) (y .2) in
+      let v = first-run c N [] (and-right (isWritable q) (isWritable c) d) (t .1) (stands-as (sym (append-nil (exprBytes c))) (t .2)) in
+      let a : s + size p + size q + size c ≡ i = omega (arith, r .long) in
+      let n = stands-at (ap (_*_ 4) a) (v .1) in
+      (kind-is w i _ _ _ _ n, first-is w i _ _ _ _ n, second-is w i _ _ _ _ n, third-is w i _ _ _ _ n, y .0, t .0, v .0)
+
+  -- a literal or a reference is found at its node
+  pub leaf-parts : (e : Expr) → Run w b s i o e → size e ≡ 1 → (leafAt w b i o ≡ got e) × (kindAt w i < 9)
+  unfolding isWritable size exprNodes exprBytes
+  leaf-parts (literal l) r z = let e : s ≡ i = omega (arith, r .long) in literal-complete w b i o l (r .writable) (stands-at (ap (_*_ 4) e) (r .words)) (r .bytes)
+  leaf-parts (reference m l) r z = let e : s ≡ i = omega (arith, r .long) in name-complete w b i o m l (r .writable) (stands-at (ap (_*_ 4) e) (r .words)) (r .bytes)
+  leaf-parts (unary j p) r z = absurd (omega (arith, size-some p))
+  leaf-parts (binary j p q) r z = absurd (omega (arith, size-some p))
+  leaf-parts (conditional p q c) r z = absurd (omega (arith, size-some p))
+
 pub tree-complete : (e : Expr) (w b : List ℕ) (s i o : ℕ) → Run w b s i o e → (f : ℕ) → i < f + s → treeAt f w b s i o ≡ got e
 unfolding treeAt isWritable size exprNodes exprBytes
 tree-complete e w b s i o r zero h = absurd (omega (arith, r .long, size-some e))
 tree-complete (literal l) w b s i o r (suc f) h =
-    let e : s ≡ i = omega (arith, r .long) in
-    let c = literal-complete w b i o l (r .writable) (stands-at (ap (_*_ 4) e) (r .words)) (r .bytes) in
-    rw (leaf-shape s i (kindAt w i) (operandAt w i 0) (operandAt w i 1) (operandAt w i 2) (c .1) e) (c .0)
+    let c = leaf-parts (literal l) r refl in
+    let z = r .long in
+    rw (leaf-shape s i (kindAt w i) (operandAt w i 0) (operandAt w i 1) (operandAt w i 2) (c .1) (omega arith)) (c .0)
 tree-complete (reference m l) w b s i o r (suc f) h =
-    let e : s ≡ i = omega (arith, r .long) in
-    let c = name-complete w b i o m l (r .writable) (stands-at (ap (_*_ 4) e) (r .words)) (r .bytes) in
-    rw (leaf-shape s i (kindAt w i) (operandAt w i 0) (operandAt w i 1) (operandAt w i 2) (c .1) e) (c .0)
+    let c = leaf-parts (reference m l) r refl in
+    let z = r .long in
+    rw (leaf-shape s i (kindAt w i) (operandAt w i 0) (operandAt w i 1) (operandAt w i 2) (c .1) (omega arith)) (c .0)
 tree-complete (unary j p) w b s i o r (suc f) h =
-    let N = node (unaryKind j) (s + size p - 1) 0 0 in
-    let y = first-run p N [] (r .writable) (r .words) (stands-as (sym (append-nil (exprBytes p))) (r .bytes)) in
-    let c : s + size p ≡ i = omega (arith, r .long) in
-    let n = stands-at (ap (_*_ 4) c) (y .1) in
-    let k = kind-is w i _ _ _ _ n in
-    let x₁ = first-is w i _ _ _ _ n in
-    let x₂ = second-is w i _ _ _ _ n in
-    let x₃ = third-is w i _ _ _ _ n in
+    let y = unary-parts j p r in
     let g = unary-range j in
     let z = size-some p in
-    let sh : shapeAt w s i ≡ One (s + size p - 1) = one-shape s i (kindAt w i) (operandAt w i 0) (operandAt w i 1) (operandAt w i 2) (omega arith) (omega arith) (omega arith) (omega arith) x₂ x₃ ∙ ap One x₁ in
-    rw (sh, tree-complete p w b s (s + size p - 1) o (y .0) f (omega arith), k, unary-found j) refl
+    let k = y .0 in
+    let e₁ = y .1 in
+    let l = r .long in
+    let sh : shapeAt w s i ≡ One (s + size p - 1) = one-shape s i (kindAt w i) (operandAt w i 0) (operandAt w i 1) (operandAt w i 2) (omega arith) (omega arith) (omega arith) (omega arith) (y .2) (y .3) ∙ ap One (y .1) in
+    rw (sh, tree-complete p w b s (s + size p - 1) o (y .4) f (omega arith), y .0, unary-found j) refl
 tree-complete (binary j p q) w b s i o r (suc f) h =
-    let O = o + length (exprBytes p) in
-    let N = node (binaryKind j) (s + size p - 1) (s + size p + size q - 1) 0 in
-    let y = first-run p (exprNodes (s + size p) O q ++ N) (exprBytes q) (and-left (isWritable p) (isWritable q) (r .writable)) (r .words) (r .bytes) in
-    let t = first-run q N [] (and-right (isWritable p) (isWritable q) (r .writable)) (y .1) (stands-as (sym (append-nil (exprBytes q))) (y .2)) in
-    let c : s + size p + size q ≡ i = omega (arith, r .long) in
-    let n = stands-at (ap (_*_ 4) c) (t .1) in
-    let k = kind-is w i _ _ _ _ n in
-    let x₁ = first-is w i _ _ _ _ n in
-    let x₂ = second-is w i _ _ _ _ n in
-    let x₃ = third-is w i _ _ _ _ n in
+    let y = binary-parts j p q r in
     let g = binary-high j in
     let g′ = binary-low j in
     let z = size-some p in
     let z′ = size-some q in
+    let k = y .0 in
+    let e₁ = y .1 in
+    let e₂ = y .2 in
+    let l = r .long in
     let e : s + size p - 1 + 1 ≡ s + size p = omega arith in
-    let sh : shapeAt w s i ≡ Two (s + size p - 1) (s + size p + size q - 1) = two-shape s i (kindAt w i) (operandAt w i 0) (operandAt w i 1) (operandAt w i 2) (omega arith) (omega arith) (omega arith) (omega arith) (omega arith) x₃ ∙ (λ m. Two (x₁ m) (x₂ m)) in
-    rw (sh, tree-complete p w b s (s + size p - 1) o (y .0) f (omega arith), e, tree-complete q w b (s + size p) (s + size p + size q - 1) O (t .0) f (omega arith), k, binary-found j) refl
+    let sh : shapeAt w s i ≡ Two (s + size p - 1) (s + size p + size q - 1) = two-shape s i (kindAt w i) (operandAt w i 0) (operandAt w i 1) (operandAt w i 2) (omega arith) (omega arith) (omega arith) (omega arith) (omega arith) (y .3) ∙ (λ m. Two (y .1 m) (y .2 m)) in
+    rw (sh, tree-complete p w b s (s + size p - 1) o (y .4) f (omega arith), e, tree-complete q w b (s + size p) (s + size p + size q - 1) (o + length (exprBytes p)) (y .5) f (omega arith), y .0, binary-found j) refl
 tree-complete (conditional p q c) w b s i o r (suc f) h =
-    let O = o + length (exprBytes p) in
-    let O′ = o + length (exprBytes p) + length (exprBytes q) in
-    let N = node 12 (s + size p - 1) (s + size p + size q - 1) (s + size p + size q + size c - 1) in
-    let d = and-right (isWritable p) (isWritable q && isWritable c) (r .writable) in
-    let y = first-run p (exprNodes (s + size p) O q ++ (exprNodes (s + size p + size q) O′ c ++ N)) (exprBytes q ++ exprBytes c) (and-left (isWritable p) (isWritable q && isWritable c) (r .writable)) (r .words) (r .bytes) in
-    let t = first-run q (exprNodes (s + size p + size q) O′ c ++ N) (exprBytes c) (and-left (isWritable q) (isWritable c) d) (y .1) (y .2) in
-    let v = first-run c N [] (and-right (isWritable q) (isWritable c) d) (t .1) (stands-as (sym (append-nil (exprBytes c))) (t .2)) in
-    let a : s + size p + size q + size c ≡ i = omega (arith, r .long) in
-    let n = stands-at (ap (_*_ 4) a) (v .1) in
-    let k = kind-is w i _ _ _ _ n in
-    let x₁ = first-is w i _ _ _ _ n in
-    let x₂ = second-is w i _ _ _ _ n in
-    let x₃ = third-is w i _ _ _ _ n in
+    let y = conditional-parts p q c r in
     let z = size-some p in
     let z′ = size-some q in
     let z″ = size-some c in
+    let e₁ = y .1 in
+    let e₂ = y .2 in
+    let e₃ = y .3 in
+    let l = r .long in
     let e : s + size p - 1 + 1 ≡ s + size p = omega arith in
     let e′ : s + size p + size q - 1 + 1 ≡ s + size p + size q = omega arith in
-    let sh : shapeAt w s i ≡ Three (s + size p - 1) (s + size p + size q - 1) (s + size p + size q + size c - 1) = three-shape s i (kindAt w i) (operandAt w i 0) (operandAt w i 1) (operandAt w i 2) k (omega arith) (omega arith) (omega arith) (omega arith) ∙ (λ m. Three (x₁ m) (x₂ m) (x₃ m)) in
-    rw (sh, tree-complete p w b s (s + size p - 1) o (y .0) f (omega arith), e, tree-complete q w b (s + size p) (s + size p + size q - 1) O (t .0) f (omega arith), e′, tree-complete c w b (s + size p + size q) (s + size p + size q + size c - 1) O′ (v .0) f (omega arith)) refl
+    let sh : shapeAt w s i ≡ Three (s + size p - 1) (s + size p + size q - 1) (s + size p + size q + size c - 1) = three-shape s i (kindAt w i) (operandAt w i 0) (operandAt w i 1) (operandAt w i 2) (y .0) (omega arith) (omega arith) (omega arith) (omega arith) ∙ (λ m. Three (y .1 m) (y .2 m) (y .3 m)) in
+    rw (sh, tree-complete p w b s (s + size p - 1) o (y .4) f (omega arith), e, tree-complete q w b (s + size p) (s + size p + size q - 1) (o + length (exprBytes p)) (y .5) f (omega arith), e′, tree-complete c w b (s + size p + size q) (s + size p + size q + size c - 1) (o + length (exprBytes p) + length (exprBytes q)) (y .6) f (omega arith)) refl

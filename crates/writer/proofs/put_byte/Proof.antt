@@ -1,0 +1,18 @@
+use mathlib.Core.Path.{_≡_, refl, sym, _∙_, ap, subst}
+use Prim.Native.Nat.{ℕ, zero, suc, _+_, _-_, _*_, _/_, _%_, _≤_, _<_}
+use lib.ListN.{length, drop, set}
+use lib.Seq.{sets}
+use Rattle.writer.proofs.Laws.{outside}
+use native.Mathlib.Omega.{arith}
+use borrow.Author.Needs.{needs}
+use Rattle.writer.proofs.put_byte.Statement.{statement}
+use Rattle.writer.proofs.put_byte.Tie as tie
+use Rattle.writer.proofs.put_byte.Reads as reads
+use Rattle.writer.proofs.put_byte.Lts as lts
+
+returns-2 : tie.Need-returns-2
+returns-2 c = outside (c .before .args .out .now) (c .before .args .at) (c .before .args .b) (c .if1 .left)
+
+pub put-byte-spec : {M : Type 1} → statement M
+put-byte-spec = tie.close (tie.spec
+    (λ c. search needs) (λ c. search needs) (λ c. search needs) returns-2)

@@ -1,0 +1,49 @@
+use mathlib.Core.Path.{_≡_, refl, sym, _∙_, ap, subst}
+use Prim.Native.Nat.{ℕ, zero, suc, _+_, _-_, _*_, _/_, _%_, _≤_, _<_}
+use lib.ListN.{length, drop, set}
+use lib.Seq.{sets}
+use Rattle.writer.proofs.Laws.{puts-as, puts-byte, escaped-1, escaped-2, escaped-3, escaped-4, escaped-5}
+use native.Mathlib.Omega.{arith}
+use borrow.Author.Needs.{needs}
+use Rattle.writer.proofs.put_escaped.Statement.{statement}
+use Rattle.writer.proofs.put_escaped.Tie as tie
+use Rattle.writer.proofs.put_escaped.Reads as reads
+use Rattle.writer.proofs.put_escaped.Lts as lts
+use Rattle.writer.proofs.put.Reads as put-reads
+use Rattle.writer.proofs.put_byte.Reads as put-byte-reads
+
+put-requires : tie.Need-put-requires
+put-requires c κs = omega (arith, c .before .before .before .before .pre, ap length (escaped-1 (c .before .before .before .before .args .b) (c .before .before .if1 .taken)))
+
+returns : tie.Need-returns
+returns c = puts-as (sym (escaped-1 (c .before .before .before .before .before .before .before .args .b) (c .before .before .before .before .before .if1 .taken))) (c .before .before .put .ensures)
+
+put-requires-2 : tie.Need-put-requires-2
+put-requires-2 c κs = omega (arith, c .before .before .before .before .before .pre, ap length (escaped-2 (c .before .before .before .before .before .args .b) (c .before .before .before .if1 .left) (c .before .before .if2 .taken)))
+
+returns-2 : tie.Need-returns-2
+returns-2 c = puts-as (sym (escaped-2 (c .before .before .before .before .before .before .before .before .args .b) (c .before .before .before .before .before .before .if1 .left) (c .before .before .before .before .before .if2 .taken))) (c .before .before .put2 .ensures)
+
+put-requires-3 : tie.Need-put-requires-3
+put-requires-3 c κs = omega (arith, c .before .before .before .before .before .before .pre, ap length (escaped-3 (c .before .before .before .before .before .before .args .b) (c .before .before .before .before .if1 .left) (c .before .before .before .if2 .left) (c .before .before .if3 .taken)))
+
+returns-3 : tie.Need-returns-3
+returns-3 c = puts-as (sym (escaped-3 (c .before .before .before .before .before .before .before .before .before .args .b) (c .before .before .before .before .before .before .before .if1 .left) (c .before .before .before .before .before .before .if2 .left) (c .before .before .before .before .before .if3 .taken))) (c .before .before .put3 .ensures)
+
+put-requires-4 : tie.Need-put-requires-4
+put-requires-4 c κs = omega (arith, c .before .before .before .before .before .before .before .pre, ap length (escaped-4 (c .before .before .before .before .before .before .before .args .b) (c .before .before .before .before .before .if1 .left) (c .before .before .before .before .if2 .left) (c .before .before .before .if3 .left) (c .before .before .if4 .taken)))
+
+returns-4 : tie.Need-returns-4
+returns-4 c = puts-as (sym (escaped-4 (c .before .before .before .before .before .before .before .before .before .before .args .b) (c .before .before .before .before .before .before .before .before .if1 .left) (c .before .before .before .before .before .before .before .if2 .left) (c .before .before .before .before .before .before .if3 .left) (c .before .before .before .before .before .if4 .taken))) (c .before .before .put4 .ensures)
+
+add-result : tie.Need-add-result
+add-result c = let h = ap length (escaped-5 (c .before .before .before .before .before .before .before .before .before .args .b) (c .before .before .before .before .before .before .before .if1 .left) (c .before .before .before .before .before .before .if2 .left) (c .before .before .before .before .before .if3 .left) (c .before .before .before .before .if4 .left)) in omega (arith, c .before .before .before .before .before .before .before .before .before .pre)
+
+returns-5 : tie.Need-returns-5
+returns-5 c = puts-as (sym (escaped-5 (c .before .before .before .before .before .before .before .before .before .args .b) (c .before .before .before .before .before .before .before .if1 .left) (c .before .before .before .before .before .before .if2 .left) (c .before .before .before .before .before .if3 .left) (c .before .before .before .before .if4 .left))) (puts-byte (c .before .before .before .before .before .before .before .before .before .args .b) _ _ (c .before .before .before .before .before .before .before .before .before .args .at) (c .before .before .put-byte .ensures))
+
+pub put-escaped-spec : {M : Type 1} → statement M
+put-escaped-spec = tie.close (tie.spec
+    (λ c. search needs) put-requires (λ c. search needs) returns (λ c. search needs) put-requires-2 (λ c. search needs) returns-2 (λ c. search needs)
+    put-requires-3 (λ c. search needs) returns-3 (λ c. search needs) put-requires-4 (λ c. search needs) returns-4 (λ c κs. search needs) add-result
+    (λ c. search needs) returns-5)
