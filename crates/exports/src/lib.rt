@@ -9,11 +9,15 @@ ghost use Rattle.slots.specs.declared.Slot.the-variants.{Held};
 ghost use Rattle.slots.specs.Packed.{slotAt, Stored};
 ghost use Rattle.exports.specs.Exports.{binaryOf, unaryOf, binarySlot, unarySlot, conditionalSlot};
 ghost use Rattle.exports.specs.Reading.{numbersOf, Reported};
+ghost use Rattle.exports.specs.Matching.{checkNumbers, CheckReported, outcomeNumbers, MatchReported};
+ghost use mathlib.Core.Bool.{cond};
+use matching::Outcome;
 use reader::Answer;
 use slots::Slot;
 use syntax::Binary;
 use syntax::Unary;
 use values::Value;
+use well_formed::Checked;
 
 // The operator of two operands that a number names.
 pub enum Two {
@@ -176,4 +180,71 @@ pub extern "C" fn classad_read(
     ensures { λ _. ⌜ Reported (now (text .entry)) (now (words .entry)) (now (bytes .entry)) (now (words .exit)) (now (bytes .exit)) (now (answer .exit)) ⌝ }
 {
     *answer = numbers(reader::read(text, words, bytes));
+}
+
+// What the check answers, as four numbers.
+fn check_numbers(answer: Checked) -> [u64; 4]
+    ensures { λ r. ⌜ r ≡ checkNumbers answer ⌝ }
+{
+    match answer {
+        Checked::WellFormed(d, n, k) => [0, d as u64, n as u64, k as u64],
+        Checked::Malformed => [10, 0, 0, 0],
+    }
+}
+
+// Checks any numbers that may be a stored ad.
+#[no_mangle]
+pub extern "C" fn classad_check(words: &[u64], bytes: &[u8], answer: &mut [u64; 4])
+    ensures { λ _. ⌜ CheckReported (now (words .entry)) (now (bytes .entry)) (now (answer .exit)) ⌝ }
+{
+    if words.len() < ad::WORDS {
+        *answer = [1, 0, 0, 0];
+        return;
+    }
+    if bytes.len() < ad::BYTES {
+        *answer = [1, 0, 0, 0];
+        return;
+    }
+    *answer = check_numbers(well_formed::check(words, bytes));
+}
+
+fn flag(b: bool) -> u64
+    ensures { λ r. ⌜ r ≡ cond b 1 0 ⌝ }
+{
+    if b {
+        return 1;
+    }
+    0
+}
+
+// What a match answers, as seven numbers.
+fn outcome_numbers(outcome: Outcome) -> [u64; 7]
+    ensures { λ r. ⌜ r ≡ outcomeNumbers outcome ⌝ }
+{
+    match outcome {
+        Outcome::Refused(k, _) => [k as u64, 0, 0, 0, 0, 0, 0],
+        Outcome::Finished(m, i, j, s, n) => {
+            [0, 1, flag(m), i as u64, j as u64, s as u64, n as u64]
+        }
+        Outcome::Unfinished(s, n) => [0, 0, 0, 0, 0, s as u64, n as u64],
+    }
+}
+
+// Matches any numbers that may be two stored ads, in any lent memory: v and b are the words and bytes of the first, w and c those of
+// the second.
+#[no_mangle]
+pub extern "C" fn classad_match(
+    v: &[u64],
+    b: &[u8],
+    w: &[u64],
+    c: &[u8],
+    table: &mut [u64],
+    list: &mut [u64],
+    budget: u16,
+    answer: &mut [u64; 7],
+)
+    ensures { λ _. ⌜ MatchReported (now (v .entry)) (now (b .entry)) (now (w .entry)) (now (c .entry)) budget (now (table .entry)) (now (list .entry)) (now (table .exit)) (now (list .exit)) (now (answer .exit)) ⌝ }
+{
+    let outcome = matching::match_ads(v, b, w, c, table, list, budget);
+    *answer = outcome_numbers(outcome);
 }

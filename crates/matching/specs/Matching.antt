@@ -2,24 +2,28 @@
 -- bytes of the first ad, w and c those of the second. Assumes nothing.
 use Prim.Native.Nat.{ℕ, suc, _-_, _*_, _+_, _^_, _≤_, _<_}
 use mathlib.Core.Path.{_≡_}
-use mathlib.Core.Bool.{Bool, true, false, cond, _&&_}
+use mathlib.Core.Bool.{Bool, true, false, cond, _&&_, _||_}
 use mathlib.Core.List.{List, [], _∷_, _++_, map}
-use lib.ListN.{length, take, replicate}
+use lib.ListN.{length, take, drop, replicate}
 use lib.Dec.{ltb}
+use Rattle.syntax.specs.Tree.{Ad}
+use Rattle.ad.specs.Layout.{adWords, adBytesRoom}
+use Rattle.well_formed.specs.WellFormed.{Holds}
 use Rattle.integers.specs.Integers.{width}
 use Rattle.values.specs.declared.Value.{Value}
 use Rattle.values.specs.declared.Value.the-variants.{Undefined}
 use Rattle.values.specs.Values.{kinds}
+use Rattle.slots.specs.declared.Slot.{Slot}
 use Rattle.slots.specs.declared.Slot.the-variants.{Blank, Held}
 use Rattle.slots.specs.Packed.{slotAt}
 use Rattle.graph.specs.Graph.{Graph, Flags, needs, Entered}
 use Rattle.graph.specs.Transition.{transitions, first, Ended}
-use Rattle.links.specs.Pair.{rootsOf, requirements, rank, pairGraph}
+use Rattle.links.specs.Pair.{numbered, rootsOf, requirements, rank, pairGraph}
 use Rattle.valuation.specs.Gives.{Gives}
 use Rattle.valuation.specs.Run.{Ran}
 use Rattle.evaluation.specs.Evaluation.{ruleAt, seen, stepsWords}
 use Rattle.matching.specs.declared.Outcome.{Outcome}
-use Rattle.matching.specs.declared.Outcome.the-variants.{Finished, Unfinished}
+use Rattle.matching.specs.declared.Outcome.the-variants.{Refused, Finished, Unfinished}
 
 -- 'Matched: both Requirements are true, nothing else.'
 abbrev pub isTrue : Value → Bool
@@ -73,3 +77,37 @@ pub record Match (v b w c : List ℕ) (budget : ℕ) (table list : List ℕ) (r 
   -- 'A budget not below the list's length covers it; the match is then finished .., otherwise the steps done.'
   pub finished : length order ≤ budget → Concluded (needs (pairGraph v b w c) circular) v b w c (length order) count r
   pub unfinished : budget < length order → r ≡ Unfinished budget count
+
+-- ---- any memory
+
+-- the words of the table: 'for a match, 2,048 values', of two words each (docs/LAYOUT.md)
+abbrev pub tableWords : ℕ
+tableWords = 4096
+
+-- 'and a list of 2,048 entries', of one word each (docs/LAYOUT.md)
+abbrev pub listWords : ℕ
+listWords = 2048
+
+-- 'lent room smaller than above'
+abbrev pub small : (v b w c table list : List ℕ) → Bool
+small v b w c table list =
+    ltb (length v) adWords || (ltb (length b) adBytesRoom || (ltb (length w) adWords || (ltb (length c) adBytesRoom || (ltb (length table) tableWords || ltb (length list) listWords))))
+
+-- the words w and the bytes b hold a well-formed ad, of whose room only the front counts: 'stored numbers are no well-formed tree within
+-- the bounds above' does not hold of them
+abbrev pub Well : List ℕ → List ℕ → Type 0
+Well w b = (a : Ad) × Holds (take adWords w) (take adBytesRoom b) a
+
+-- THE CONTRACT OF `match_ads`, over any memory: table′ and list′ are what is lent of them after it. 'Matching checks 1, then 10 for the
+-- first ad, then 10 for the second', and then 'all unchanged'; otherwise 'Memory lent beyond these sizes is never changed.'
+pub data Matched (v b w c : List ℕ) (budget : ℕ) (table list table′ list′ : List ℕ) (r : Outcome) : Type 0 where
+  no-room : small v b w c table list ≡ true → r ≡ Refused 1 0 → table′ ≡ table → list′ ≡ list → Matched v b w c budget table list table′ list′ r
+  first-malformed : small v b w c table list ≡ false → ¬ (Well v b) → r ≡ Refused 10 0 → table′ ≡ table → list′ ≡ list → Matched v b w c budget table list table′ list′ r
+  second-malformed : small v b w c table list ≡ false → Well v b → ¬ (Well w c) → r ≡ Refused 10 0 → table′ ≡ table → list′ ≡ list → Matched v b w c budget table list table′ list′ r
+  matches : small v b w c table list ≡ false → Well v b → Well w c → (values entries : List ℕ) →
+      Match (take adWords v) (take adBytesRoom b) (take adWords w) (take adBytesRoom c) budget values entries r →
+      table′ ≡ values ++ drop tableWords table → list′ ≡ entries ++ drop listWords list → Matched v b w c budget table list table′ list′ r
+
+-- what the slot of a node of an ad, the second or the first, holds: 'Every node of each side has its own slot, 1,024 a side.'
+abbrev pub shownAt : List ℕ → Bool → ℕ → Slot
+shownAt table second node = cond (ltb node 1024) (slotAt table (numbered second node)) Blank

@@ -1,6 +1,6 @@
 // The match of two stored ads. v and b are the words and bytes of the first ad, w and c those of the second.
 ghost use mathlib.Core.Path.{_≡_};
-ghost use mathlib.Core.Bool.{false, true, cond, _&&_};
+ghost use mathlib.Core.Bool.{false, true, cond, _&&_, _||_};
 ghost use mathlib.Core.List.{map};
 ghost use Prim.Native.Nat.{_-_, _^_, _≤_, _<_};
 ghost use lib.ListN.{length, replicate};
@@ -8,14 +8,24 @@ ghost use lib.Dec.{ltb};
 ghost use Rattle.integers.specs.Integers.{width};
 ghost use Rattle.ad.specs.Stored.{nodeCount};
 ghost use Rattle.slots.specs.Packed.{slotAt};
+ghost use Rattle.values.specs.Values.{bytesAt};
 ghost use Rattle.links.specs.Pair.{rootsOf, requirements, rank, Formed, Measured};
 ghost use Rattle.dependency.specs.Traversal.{Ready};
 ghost use Rattle.nodes.specs.Nodes.{valueIn};
 ghost use Rattle.evaluation.specs.Evaluation.{seen};
-ghost use Rattle.matching.specs.Matching.{isTrue, rankOf, Match};
+ghost use Rattle.matching.specs.Matching.{isTrue, rankOf, Match, Well, Matched, shownAt};
 ghost use Rattle.matching.specs.declared.Outcome.the-variants.{Finished};
 use links::Counts;
+use slots::Slot;
 use values::Value;
+use well_formed::Checked;
+
+// 2,048 values of two words, and 2,048 entries.
+const VALUES: usize = 4096;
+
+const ENTRIES: usize = 2048;
+
+const NODES: usize = 1024;
 
 // What a match answers: a refusal's number and place; verdict, both ranks and steps of a finished one; or the steps done. The last
 // number is how many transitions its traversal took.
@@ -164,4 +174,94 @@ fn match_formed(
         table,
         budget,
     )
+}
+
+// Whether the lent memory is smaller than the room of two ads, 2,048 values and 2,048 entries.
+fn too_small(v: &[u64], b: &[u8], w: &[u64], c: &[u8], values: usize, entries: usize) -> bool
+    ensures { λ r. ⌜ r ≡ (ltb (length (now (v .entry))) 4864 || (ltb (length (now (b .entry))) 16384 || (ltb (length (now (w .entry))) 4864 || (ltb (length (now (c .entry))) 16384 || (ltb values 4096 || ltb entries 2048))))) ⌝ }
+{
+    if v.len() < ad::WORDS {
+        return true;
+    }
+    if b.len() < ad::BYTES {
+        return true;
+    }
+    if w.len() < ad::WORDS {
+        return true;
+    }
+    if c.len() < ad::BYTES {
+        return true;
+    }
+    if values < VALUES {
+        return true;
+    }
+    entries < ENTRIES
+}
+
+// Whether the lent memory holds a well-formed ad.
+fn well(words: &[u64], bytes: &[u8]) -> bool
+    ensures { λ r. ⌜ (r ≡ true → Well (now (words .entry)) (now (bytes .entry))) × (r ≡ false → ¬ (Well (now (words .entry)) (now (bytes .entry)))) ⌝ }
+{
+    match well_formed::check(words, bytes) {
+        Checked::WellFormed(_, _, _) => true,
+        Checked::Malformed => false,
+    }
+}
+
+// THE MATCH of two stored ads, whatever is lent.
+pub fn match_ads(
+    v: &[u64],
+    b: &[u8],
+    w: &[u64],
+    c: &[u8],
+    table: &mut [u64],
+    list: &mut [u64],
+    budget: u16,
+) -> Outcome
+    ensures { λ r. ⌜ Matched (now (v .entry)) (now (b .entry)) (now (w .entry)) (now (c .entry)) budget (now (table .entry)) (now (list .entry)) (now (table .exit)) (now (list .exit)) r ⌝ }
+{
+    if too_small(v, b, w, c, table.len(), list.len()) {
+        return Outcome::Refused(1, 0);
+    }
+    if !well(v, b) {
+        return Outcome::Refused(10, 0);
+    }
+    if !well(w, c) {
+        return Outcome::Refused(10, 0);
+    }
+    match_formed(
+        &v[..ad::WORDS],
+        &b[..ad::BYTES],
+        &w[..ad::WORDS],
+        &c[..ad::BYTES],
+        &mut table[..VALUES],
+        &mut list[..ENTRIES],
+        budget,
+    )
+}
+
+// What a match left in the slot of a node of an ad, `second` or the first; blank where there is no such slot.
+pub fn value_at(table: &[u64], second: bool, node: usize) -> Slot
+    ensures { λ r. ⌜ r ≡ shownAt (now (table .entry)) second node ⌝ }
+{
+    if node < NODES {
+        if second {
+            return slots::load(table, NODES + node);
+        }
+        return slots::load(table, node);
+    }
+    Slot::Blank
+}
+
+// The bytes of a String value, as a part of its ad's memory, cut to what that holds.
+pub fn string_bytes<'a>(
+    first: &'a [u8],
+    second: &'a [u8],
+    side: bool,
+    offset: u16,
+    length: u16,
+) -> &'a [u8]
+    ensures { λ r. ⌜ now r ≡ bytesAt (now (first .entry)) (now (second .entry)) side offset length ⌝ }
+{
+    values::part(first, second, side, offset, length)
 }

@@ -1,0 +1,17 @@
+use denote.Ref.{now}
+use mathlib.Core.Bool.{true≢false}
+use mathlib.Core.Path.{sym}
+use Rattle.matching.proofs.Whole.{well-formed, malformed}
+use borrow.Author.Needs.{needs}
+use Rattle.matching.proofs.well.Statement.{statement}
+use Rattle.matching.proofs.well.Tie as tie
+
+returns : tie.Need-returns
+returns c = ((λ e. well-formed (now (c .before .before .before .before .before .args .words)) (now (c .before .before .before .before .before .args .bytes)) (c .before .before .check .ensures) (c .enum-told .given .1)), λ e. absurd (true≢false e))
+
+returns-2 : tie.Need-returns-2
+returns-2 c = ((λ e. absurd (true≢false (sym e))), λ e. malformed (now (c .before .before .before .before .before .args .words)) (now (c .before .before .before .before .before .args .bytes)) (c .before .before .check .ensures) (c .enum-told2 .given .1))
+
+pub well-spec : {M : Type 1} → statement M
+well-spec = tie.close (tie.spec
+    (λ c κs. search needs) (λ c. search needs) (λ c. search needs) returns returns-2)
