@@ -27,19 +27,19 @@ unfoldable pub areWritable : Ad → Bool
 areWritable [] = true
 areWritable (d ∷ ds) = isName (d .name) && (isWritable (d .expression) && areWritable ds)
 
--- 'a well-formed tree within the bounds above, levels of its printed text included, text length not'
+-- 'a well-formed tree within the bounds above, levels of its printed text included, text length not': the trees that some text reads as
 pub record Bounded (a : Ad) : Type 0 where
   -- '256 definitions', '1,024 nodes', no 'name defined twice'
   pub within : Within a
   pub writable : areWritable a ≡ true
   -- 'level 64'
   pub shallow : adLevel a ≤ maxLevel
-  -- '16,384 bytes of names and strings'
-  pub fits : length (adBytes a) ≤ adBytesRoom
 
 -- the words w and the bytes b are 'exactly this content, zeros included'
 pub record Holds (w b : List ℕ) (a : Ad) : Type 0 where
   pub bounded : Bounded a
+  -- '16,384 bytes of names and strings'
+  pub fits : length (adBytes a) ≤ adBytesRoom
   pub words : w ≡ storedWords a
   pub bytes : b ≡ storedBytes a
 

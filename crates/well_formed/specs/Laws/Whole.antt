@@ -145,8 +145,8 @@ module _ (w b : List ℕ) (hw : length w ≡ 4864) (hb : length b ≡ 16384) whe
           within = record { few-definitions = few; few-nodes = small; distinct = distinct-of w b a (t .entries) (t .bytes) new };
           writable = t .writable;
           shallow = t .shallow;
-          fits = fits;
         };
+        fits = fits;
         words = table-words 4096 768 N D (omega arith) (t .words .is) e₁ (t .entries .is ∙ ap (_++_ D) e₂);
         bytes = t .bytes .is ∙ ap (_++_ (adBytes a)) (ap (λ (k : ℕ). drop k b) (zero-add (length (adBytes a))) ∙ z .bytes-zero);
       }
@@ -167,7 +167,7 @@ module _ (w b : List ℕ) (hw : length w ≡ 4864) (hb : length b ≡ 16384) whe
       let lD = length-entries 0 0 a in
       let few : nodes a ≤ 1024 = h .bounded .within .few-nodes in
       let small : length a ≤ 256 = h .bounded .within .few-definitions in
-      let fits : length B ≤ 16384 = h .bounded .fits in
+      let fits : length B ≤ 16384 = h .fits in
       let x = split-words 4096 768 N D (omega arith) (h .words) in
       let y : drop (length B) b ≡ replicate (16384 - length B) 0 = ap (drop (length B)) (h .bytes) ∙ drop-append-seam B (replicate (16384 - length B) 0) in (
         record {
@@ -254,4 +254,4 @@ holds-long {w} {b} a h =
     let g = h .bounded .within .few-definitions in
     let p = padded-long 4096 N (omega (arith, length-ad 0 0 a)) in
     let q = padded-long 768 D (omega (arith, length-entries 0 0 a)) in
-    (ap length (h .words) ∙ (length-append (N ++ replicate (4096 - length N) 0) (D ++ replicate (768 - length D) 0) ∙ (omega arith)), ap length (h .bytes) ∙ padded-long 16384 (adBytes a) (h .bounded .fits))
+    (ap length (h .words) ∙ (length-append (N ++ replicate (4096 - length N) 0) (D ++ replicate (768 - length D) 0) ∙ (omega arith)), ap length (h .bytes) ∙ padded-long 16384 (adBytes a) (h .fits))
