@@ -1,0 +1,5 @@
+-- What is proved of reading and printing together.
+pub mod Derives
+pub mod Fronts
+pub mod Lexing
+pub mod RoundTrip

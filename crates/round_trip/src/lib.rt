@@ -1,0 +1,1 @@
+// What is proved of reading and printing together: in specs/Laws.
