@@ -3,3 +3,7 @@ pub mod Derives
 pub mod Fronts
 pub mod Lexing
 pub mod RoundTrip
+pub mod Deepest
+pub mod Written
+pub mod Fits
+pub mod Readable
