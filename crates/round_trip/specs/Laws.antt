@@ -7,3 +7,5 @@ pub mod Deepest
 pub mod Written
 pub mod Fits
 pub mod Readable
+pub mod Parentheses
+pub mod WithoutPair

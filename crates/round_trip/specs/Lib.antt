@@ -1,3 +1,4 @@
 pub mod Printed
 pub mod Left
+pub mod WithoutPair
 pub mod Laws
