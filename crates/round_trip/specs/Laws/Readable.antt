@@ -38,12 +38,17 @@ readable a = ((λ x. accepted-bounded (x .0) a (x .1)), λ h. (printedAd a, roun
 pub accepted-round-trip : (s : List ℕ) (a : Ad) → parse s ≡ accepted a → parse (printedAd a) ≡ accepted a
 accepted-round-trip s a e = round-trip a (accepted-bounded s a e)
 
+-- READING THE PRINT OF A STORED AD, were its length not bounded, LEAVES THE SAME MEMORY
+pub print-leaves : (w b : List ℕ) (a : Ad) → Holds w b a → Leaves (printedAd a) w b
+print-leaves w b a h = record { tree = a; reads = round-trip a (h .bounded); fits = h .fits; words = h .words; bytes = h .bytes }
+
+-- and what a text leaves is within the bounds
+leaves-holds : (s w b : List ℕ) (l : Leaves s w b) → Holds w b (l .tree)
+leaves-holds s w b l = record { bounded = accepted-bounded s (l .tree) (l .reads); fits = l .fits; words = l .words; bytes = l .bytes }
+
 -- WELL FORMED: memory holds a tree within the bounds, zeros included, exactly if reading some text would leave it so
 pub well-formed : (w b : List ℕ) → ((a : Ad) × Holds w b a) ↔ ((s : List ℕ) × Leaves s w b)
-well-formed w b = (
-  (λ x. let h = x .1 in (printedAd (x .0), record { tree = x .0; reads = round-trip (x .0) (h .bounded); fits = h .fits; words = h .words; bytes = h .bytes })),
-  λ x. let l = x .1 in (l .tree, record { bounded = accepted-bounded (x .0) (l .tree) (l .reads); fits = l .fits; words = l .words; bytes = l .bytes }),
-)
+well-formed w b = ((λ x. (printedAd (x .0), print-leaves w b (x .0) (x .1))), λ x. (x .1 .tree, leaves-holds (x .0) w b (x .1)))
 
 -- STORED NUMBERS PASS THE CHECK EXACTLY IF SOME TEXT, OF ANY LENGTH, WOULD LEAVE EXACTLY THIS CONTENT: of any answer that meets the
 -- contract of `well_formed::check`
