@@ -12,9 +12,7 @@ use borrow.Author.Tests.{eq-eqb, ne-eqb}
 use Rattle.text.specs.Bytes.{bytes}
 use Rattle.text.specs.Parts.{drop-one, sets-append}
 use Rattle.syntax.specs.Tree.{real, string}
-use Rattle.syntax.specs.Print.{decimal, escaped, escapedAll, literalText, binaryText}
-use Rattle.syntax.specs.declared.Binary.{Binary}
-use Rattle.syntax.specs.declared.Binary.the-variants.{Or, And, Equal, NotEqual, Is, Isnt, Less, LessOrEqual, Greater, GreaterOrEqual, Add, Subtract, Multiply, Divide, Remainder}
+use Rattle.syntax.specs.Print.{decimal, escaped, escapedAll, literalText}
 use Rattle.lexemes.specs.Laws.Digits.{decimal-one, decimal-more, real-none, real-more}
 use Rattle.writer.specs.Put.{Puts, Near}
 
@@ -130,23 +128,3 @@ module _ (b : ℕ) where
   pub escaped-5 : (b ≡ 34 → ⊥) → (b ≡ 92 → ⊥) → (b ≡ 10 → ⊥) → (b ≡ 9 → ⊥) → escaped b ≡ b ∷ []
   unfolding escaped bytes
   escaped-5 n m l k = rw (ne-eqb b 34 n, ne-eqb b 92 m, ne-eqb b 10 l, ne-eqb b 9 k) refl
-
--- ---- operators
-
-pub operator-short : (j : Binary) → length (binaryText j) ≤ 4
-unfolding binaryText bytes
-operator-short Or = omega arith
-operator-short And = omega arith
-operator-short Equal = omega arith
-operator-short NotEqual = omega arith
-operator-short Is = omega arith
-operator-short Isnt = omega arith
-operator-short Less = omega arith
-operator-short LessOrEqual = omega arith
-operator-short Greater = omega arith
-operator-short GreaterOrEqual = omega arith
-operator-short Add = omega arith
-operator-short Subtract = omega arith
-operator-short Multiply = omega arith
-operator-short Divide = omega arith
-operator-short Remainder = omega arith

@@ -144,7 +144,7 @@ fn put_operator(j: Binary, out: &mut [u8], at: usize) -> usize
 
 // Writes an operator of two operands between blanks.
 pub fn put_binary(j: Binary, out: &mut [u8], at: usize) -> usize
-    requires { ⌜ at ≤ 900000 ⌝ }
+    requires { ⌜ at + length (binaryText j) + 2 ≤ 1000000 ⌝ }
     ensures { λ r. ⌜ Puts (32 ∷ (binaryText j ++ 32 ∷ [])) (now (out .entry)) at (now (out .exit)) r ⌝ }
 {
     put_byte(out, at, 32);

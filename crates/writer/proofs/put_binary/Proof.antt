@@ -3,7 +3,7 @@ use Prim.Native.Nat.{ℕ, zero, suc, _+_, _-_, _*_, _/_, _%_, _≤_, _<_}
 use lib.ListN.{length, drop, set}
 use lib.Seq.{sets}
 use Rattle.syntax.specs.Print.{binaryText}
-use Rattle.writer.proofs.Laws.{puts-join, puts-byte, operator-short}
+use Rattle.writer.proofs.Laws.{puts-join, puts-byte}
 use native.Mathlib.Omega.{arith}
 use borrow.Author.Needs.{needs}
 use Rattle.writer.proofs.put_binary.Statement.{statement}
@@ -14,10 +14,10 @@ use Rattle.writer.proofs.put_byte.Reads as put-byte-reads
 use Rattle.writer.proofs.put_operator.Reads as put-operator-reads
 
 put-operator-requires : tie.Need-put-operator-requires
-put-operator-requires c κs = let h = operator-short (c .before .before .before .before .before .before .args .j) in omega (arith, c .before .before .before .before .before .before .pre)
+put-operator-requires c κs = omega (arith, c .before .before .before .before .before .before .pre)
 
 add-result : tie.Need-add-result
-add-result c = let h = operator-short (c .before .before .before .before .before .before .before .before .before .before .before .before .before .args .j) in omega (arith, c .before .before .before .before .before .before .before .before .before .before .before .before .before .pre, c .before .before .before .before .before .before .put-operator .ensures .behind)
+add-result c = omega (arith, c .before .before .before .before .before .before .before .before .before .before .before .before .before .pre, c .before .before .before .before .before .before .put-operator .ensures .behind)
 
 returns : tie.Need-returns
 returns c = puts-join (puts-byte 32 (c .before .before .before .before .before .before .before .before .before .before .before .before .before .args .out .now) _ (c .before .before .before .before .before .before .before .before .before .before .before .before .before .args .at) (c .before .before .before .before .before .before .before .before .before .before .put-byte .ensures)) (puts-join (c .before .before .before .before .before .before .put-operator .ensures) (puts-byte 32 _ _ _ (c .before .before .put-byte2 .ensures)))

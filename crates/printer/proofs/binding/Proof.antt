@@ -1,0 +1,33 @@
+use mathlib.Core.Path.{_≡_, refl, sym, _∙_, ap, subst}
+use mathlib.Core.List.{List, [], _∷_, _++_}
+use Prim.Native.Nat.{ℕ, zero, suc, _+_, _-_, _*_, _≤_, _<_}
+use lib.ListN.{length, length-append}
+use Rattle.printer.proofs.Trees.{binds-leaf, binds-unary, binds-conditional, binds-binary}
+use Rattle.syntax.specs.Grammar.{bindsOf}
+use Rattle.syntax.specs.declared.Binary.{Binary}
+use Rattle.printer.specs.Post.{bindsKind}
+use native.Mathlib.Omega.{arith}
+use borrow.Author.Needs.{needs}
+use Rattle.printer.proofs.binding.Statement.{statement}
+use Rattle.printer.proofs.binding.Tie as tie
+use Rattle.printer.proofs.binding.Reads as reads
+use Rattle.printer.proofs.binding.Lts as lts
+use Rattle.ad.proofs.binary_of.Reads as binary-of-reads
+use Rattle.ad.proofs.kind.Reads as kind-reads
+use Rattle.lookahead.proofs.binds.Reads as binds-reads
+
+returns : tie.Need-returns
+returns c = binds-leaf (c .before .kind .result) (c .if1 .taken) ∙ ap bindsKind (c .before .kind .ensures)
+
+returns-2 : tie.Need-returns-2
+returns-2 c = binds-unary (c .before .before .kind .result) (c .before .if1 .left) (c .if2 .taken) ∙ ap bindsKind (c .before .before .kind .ensures)
+
+returns-3 : tie.Need-returns-3
+returns-3 c = binds-conditional (c .before .before .before .kind .result) (c .if3 .taken) ∙ ap bindsKind (c .before .before .before .kind .ensures)
+
+returns-4 : tie.Need-returns-4
+returns-4 c = c .binds .ensures ∙ ap bindsOf (c .before .binary-of .ensures) ∙ binds-binary (c .before .before .before .before .before .kind .result) (c .before .before .before .before .if1 .left) (c .before .before .before .if2 .left) (c .before .before .if3 .left) ∙ ap bindsKind (c .before .before .before .before .before .kind .ensures)
+
+pub binding-spec : {M : Type 1} → statement M
+binding-spec = tie.close (tie.spec
+    (λ c κs. search needs) returns returns-2 returns-3 (λ c κs. search needs) (λ c κs. search needs) returns-4)

@@ -1,0 +1,36 @@
+use mathlib.Core.Path.{_≡_, refl, sym, _∙_, ap, subst}
+use mathlib.Core.List.{List, [], _∷_, _++_}
+use Prim.Native.Nat.{ℕ, zero, suc, _+_, _-_, _*_, _≤_, _<_}
+use lib.ListN.{length, length-append}
+use Rattle.syntax.specs.Print.{literalText, printed}
+use Rattle.text.specs.Bytes.{bytes}
+use Rattle.writer.proofs.Laws.{puts-as, puts-join}
+use borrow.Author.Tests.{ne-eqb}
+use Rattle.syntax.specs.Tree.{boolean}
+use native.Mathlib.Omega.{arith}
+use borrow.Author.Needs.{needs}
+use Rattle.printer.proofs.put_boolean.Statement.{statement}
+use Rattle.printer.proofs.put_boolean.Tie as tie
+use Rattle.printer.proofs.put_boolean.Reads as reads
+use Rattle.printer.proofs.put_boolean.Lts as lts
+use Rattle.writer.proofs.put.Reads as put-reads
+
+put-requires : tie.Need-put-requires
+unfolding literalText bytes
+put-requires c κs = let h = rw (c .before .before .if1 .taken) at (c .before .before .before .before .pre) in omega arith
+
+returns : tie.Need-returns
+unfolding literalText bytes
+returns c = rw (c .before .before .before .before .before .if1 .taken) (c .before .before .put .ensures)
+
+put-requires-2 : tie.Need-put-requires-2
+unfolding literalText bytes
+put-requires-2 c κs = let h = rw (ne-eqb _ _ (c .before .before .if1 .left)) at (c .before .before .before .before .pre) in omega arith
+
+returns-2 : tie.Need-returns-2
+unfolding literalText bytes
+returns-2 c = rw (ne-eqb _ _ (c .before .before .before .before .before .if1 .left)) (c .before .before .put2 .ensures)
+
+pub put-boolean-spec : {M : Type 1} → statement M
+put-boolean-spec = tie.close (tie.spec
+    (λ c. search needs) put-requires (λ c. search needs) returns (λ c. search needs) put-requires-2 (λ c. search needs) returns-2)

@@ -1,0 +1,63 @@
+-- What the writers of trees are given and ensure. w and b are the words and bytes of an ad. Assumes nothing.
+use Prim.Native.Nat.{ℕ, _+_, _-_, _≤_, _<_}
+use mathlib.Core.Path.{_≡_}
+use mathlib.Core.Bool.{cond}
+use mathlib.Core.List.{List, [], _∷_, _++_}
+use lib.ListN.{length}
+use lib.Dec.{ltb, eqb}
+use Rattle.syntax.specs.Tree.{Expr, Ad}
+use Rattle.syntax.specs.Grammar.{bindsOf}
+use Rattle.syntax.specs.Print.{binds, wrap, printed, definitionsText}
+use Rattle.ad.specs.Stored.{binaryOf}
+use Rattle.writer.specs.Put.{Puts, Near}
+use Rattle.well_formed.specs.Decode.{got, leafAt}
+use Rattle.well_formed.specs.Laws.Leaves.{Run}
+use Rattle.well_formed.specs.Laws.Definitions.{Table}
+
+-- how a node of kind k binds
+unfoldable pub bindsKind : ℕ → ℕ
+bindsKind k = cond (ltb k 9) 8 (cond (ltb k 12) 7 (cond (eqb k 12) 0 (bindsOf (binaryOf k))))
+
+-- an expression's text where one that binds at k or tighter can stand
+abbrev pub wrapped : ℕ → Expr → List ℕ
+wrapped k e = wrap k (binds e) (printed e)
+
+-- a tree has its last node at i, and its text t is near `at`
+pub record Fits (t : Expr → List ℕ) (w b : List ℕ) (i at : ℕ) : Type 0 where
+  pub words : 4864 ≤ length w
+  pub node : i < 1024
+  pub tree : Expr
+  pub first : ℕ
+  pub byte : ℕ
+  pub stands : Run w b first i byte tree
+  pub near : Near at (t tree)
+
+-- the text t of the tree that has its last node at i is written
+abbrev pub Written : (Expr → List ℕ) → List ℕ → List ℕ → ℕ → ℕ → List ℕ → List ℕ → ℕ → Type 0
+Written t w b i at o o′ r = (e : Expr) (s k : ℕ) → Run w b s i k e → Puts (t e) o at o′ r
+
+-- the same of a literal or a reference
+pub record LeafFits (w b : List ℕ) (i at : ℕ) : Type 0 where
+  pub words : 4864 ≤ length w
+  pub node : i < 1024
+  pub tree : Expr
+  pub byte : ℕ
+  pub found : leafAt w b i byte ≡ got tree
+  pub near : Near at (printed tree)
+
+abbrev pub LeafWritten : List ℕ → List ℕ → ℕ → ℕ → List ℕ → List ℕ → ℕ → Type 0
+LeafWritten w b i at o o′ r = (e : Expr) (k : ℕ) → leafAt w b i k ≡ got e → Puts (printed e) o at o′ r
+
+-- the definitions from j up to d
+pub record TableFits (w b : List ℕ) (j d at : ℕ) : Type 0 where
+  pub words : 4864 ≤ length w
+  pub few : d ≤ 256
+  pub ad : Ad
+  pub node : ℕ
+  pub byte : ℕ
+  pub table : Table w b j node byte ad
+  pub count : d ≡ j + length ad
+  pub near : Near at (definitionsText ad)
+
+abbrev pub TableWritten : List ℕ → List ℕ → ℕ → ℕ → ℕ → List ℕ → List ℕ → ℕ → Type 0
+TableWritten w b j d at o o′ r = (a : Ad) (n k : ℕ) → Table w b j n k a → d ≡ j + length a → Puts (definitionsText a) o at o′ r

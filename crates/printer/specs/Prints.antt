@@ -1,0 +1,47 @@
+-- What `print` answers and leaves, whatever memory and output it is lent. w and b are the words and bytes of an ad, o is the output.
+-- Assumes nothing.
+use Prim.Native.Nat.{ℕ, _≤_, _<_}
+use mathlib.Core.Path.{_≡_}
+use mathlib.Core.Logic.{_⊎_}
+use mathlib.Core.List.{List, [], _++_}
+use lib.ListN.{length, take, drop}
+use Rattle.syntax.specs.Bounds.{textBytes}
+use Rattle.syntax.specs.Tree.{Ad}
+use Rattle.syntax.specs.Print.{printedAd}
+use Rattle.ad.specs.Layout.{adWords, adBytesRoom}
+use Rattle.well_formed.specs.WellFormed.{Holds}
+use Rattle.printer.specs.declared.Printed.{Printed}
+use Rattle.printer.specs.declared.Printed.the-variants.{Text, Refused}
+
+-- the memory of an ad is as large as it must be
+pub record Roomy (w b : List ℕ) : Type 0 where
+  pub words : adWords ≤ length w
+  pub bytes : adBytesRoom ≤ length b
+
+-- the room's front part of the memory holds the ad a
+abbrev pub Stored : List ℕ → List ℕ → Ad → Type 0
+Stored w b a = Holds (take adWords w) (take adBytesRoom b) a
+
+-- the printed text fits: it is not 'longer than the lent output or than 16,384'
+pub record Fitting (o : List ℕ) (a : Ad) : Type 0 where
+  pub lent : length (printedAd a) ≤ length o
+  pub bounded : length (printedAd a) ≤ textBytes
+
+-- 'Printing checks 1, 10, then 11.'
+pub data Refuses (w b o : List ℕ) : ℕ → Type 0 where
+  -- 'lent room smaller than above'
+  small : ¬ (Roomy w b) → Refuses w b o 1
+  -- 'stored numbers are no well-formed tree within the bounds above'
+  malformed : Roomy w b → ((a : Ad) → ¬ (Stored w b a)) → Refuses w b o 10
+  -- 'printed text longer than the lent output or than 16,384'
+  long : Roomy w b → {a : Ad} → Stored w b a → ¬ (Fitting o a) → Refuses w b o 11
+
+-- THE CONTRACT OF `print`: o′ is the output after it. The text stands in front and 'the bytes after it stay'; a refusal has the place
+-- '0 for 1, 2, 10 and 11' and leaves 'all unchanged'.
+abbrev pub Prints : List ℕ → List ℕ → List ℕ → List ℕ → Printed → Type 0
+Prints w b o o′ (Text n) = (a : Ad) × Stored w b a × Fitting o a × (n ≡ length (printedAd a)) × (o′ ≡ printedAd a ++ drop n o)
+Prints w b o o′ (Refused k p) = Refuses w b o k × (p ≡ 0) × (o′ ≡ o)
+
+-- THE CONTRACT OF `text`: 'The text is handed back as the front part of the caller's output'; nothing of it where it is refused
+abbrev pub HandsBack : List ℕ → List ℕ → List ℕ → List ℕ → Type 0
+HandsBack w b o t = ((a : Ad) × Stored w b a × Fitting o a × (t ≡ printedAd a)) ⊎ ((k : ℕ) × Refuses w b o k × (t ≡ []))
