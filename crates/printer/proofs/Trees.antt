@@ -91,7 +91,12 @@ module _ (w b : List ℕ) (i at need c : ℕ) (hc : c ≡ bindsKind (kindAt w i)
         let e = f .tree in
         let z = binding-is (f .first) (f .byte) e (f .stands) in
         record {
-          words = f .words; node = f .node; tree = e; first = f .first; byte = f .byte; stands = f .stands;
+          words = f .words;
+          node = f .node;
+          tree = e;
+          first = f .first;
+          byte = f .byte;
+          stands = f .stands;
           near = subst (Near at) (bare need e (omega arith)) (f .near);
         }
 
@@ -111,7 +116,12 @@ module _ (w b : List ℕ) (i at need c : ℕ) (hc : c ≡ bindsKind (kindAt w i)
 
     pub closed-fits : Fits (wrapped need) w b i at → Fits printed w b i (at + 1)
     closed-fits f = record {
-      words = f .words; node = f .node; tree = f .tree; first = f .first; byte = f .byte; stands = f .stands;
+      words = f .words;
+      node = f .node;
+      tree = f .tree;
+      first = f .first;
+      byte = f .byte;
+      stands = f .stands;
       near = omega (arith, whole f);
     }
 

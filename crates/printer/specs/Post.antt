@@ -4,10 +4,11 @@ use mathlib.Core.Path.{_≡_}
 use mathlib.Core.Bool.{cond}
 use mathlib.Core.List.{List, [], _∷_, _++_}
 use lib.ListN.{length}
+use lib.Seq.{sets}
 use lib.Dec.{ltb, eqb}
-use Rattle.syntax.specs.Tree.{Expr, Ad}
+use Rattle.syntax.specs.Tree.{Expr, Definition, Ad}
 use Rattle.syntax.specs.Grammar.{bindsOf}
-use Rattle.syntax.specs.Print.{binds, wrap, printed, definitionsText}
+use Rattle.syntax.specs.Print.{binds, wrap, printed, definitionText, definitionsText, printedAd}
 use Rattle.ad.specs.Stored.{binaryOf}
 use Rattle.writer.specs.Put.{Puts, Near}
 use Rattle.well_formed.specs.Decode.{got, leafAt}
@@ -48,6 +49,20 @@ pub record LeafFits (w b : List ℕ) (i at : ℕ) : Type 0 where
 abbrev pub LeafWritten : List ℕ → List ℕ → ℕ → ℕ → List ℕ → List ℕ → ℕ → Type 0
 LeafWritten w b i at o o′ r = (e : Expr) (k : ℕ) → leafAt w b i k ≡ got e → Puts (printed e) o at o′ r
 
+-- a definition has the number j, and its text is near `at`
+pub record RowFits (w b : List ℕ) (j at : ℕ) : Type 0 where
+  pub words : 4864 ≤ length w
+  pub few : j < 256
+  pub first : Definition
+  pub others : Ad
+  pub node : ℕ
+  pub byte : ℕ
+  pub table : Table w b j node byte (first ∷ others)
+  pub near : Near at (definitionText first)
+
+abbrev pub RowWritten : List ℕ → List ℕ → ℕ → ℕ → List ℕ → List ℕ → ℕ → Type 0
+RowWritten w b j at o o′ r = (d : Definition) (a : Ad) (n k : ℕ) → Table w b j n k (d ∷ a) → Puts (definitionText d) o at o′ r
+
 -- the definitions from j up to d
 pub record TableFits (w b : List ℕ) (j d at : ℕ) : Type 0 where
   pub words : 4864 ≤ length w
@@ -61,3 +76,7 @@ pub record TableFits (w b : List ℕ) (j d at : ℕ) : Type 0 where
 
 abbrev pub TableWritten : List ℕ → List ℕ → ℕ → ℕ → ℕ → List ℕ → List ℕ → ℕ → Type 0
 TableWritten w b j d at o o′ r = (a : Ad) (n k : ℕ) → Table w b j n k a → d ≡ j + length a → Puts (definitionsText a) o at o′ r
+
+-- the whole ad is written at the front
+abbrev pub AdWritten : List ℕ → List ℕ → ℕ → List ℕ → List ℕ → Type 0
+AdWritten w b d o o′ = (a : Ad) → Table w b 0 0 0 a → d ≡ length a → o′ ≡ sets o 0 (printedAd a)

@@ -11,7 +11,7 @@ ghost use Rattle.syntax.specs.Print.{literalText, printed};
 ghost use Rattle.writer.specs.Put.{Near, Puts};
 ghost use Rattle.ad.specs.Stored.{kindAt};
 ghost use Rattle.printer.specs.Prints.{Prints, HandsBack};
-ghost use Rattle.printer.specs.Post.{bindsKind, wrapped, Fits, Written, LeafFits, LeafWritten, TableFits, TableWritten};
+ghost use Rattle.printer.specs.Post.{bindsKind, wrapped, Fits, Written, LeafFits, LeafWritten, RowFits, RowWritten, TableFits, TableWritten, AdWritten};
 
 // What printing gives.
 pub enum Printed {
@@ -120,4 +120,94 @@ fn put_operand(
     let m = put_tree(words, bytes, i, out, at + 1);
     put_byte(out, m, 41);
     m + 1
+}
+
+// Writes definition j.
+fn put_definition(words: &[u64], bytes: &[u8], j: usize, out: &mut [u8], at: usize) -> usize
+    requires { ⌜ RowFits (now words) (now bytes) j at ⌝ }
+    ensures { λ r. ⌜ RowWritten (now (words .entry)) (now (bytes .entry)) j at (now (out .entry)) (now (out .exit)) r ⌝ }
+{
+    let first = ad::offset(words, j);
+    let len = ad::name_length(words, j);
+    let root = ad::root(words, j);
+    let m = put(ad::part(bytes, first, len), out, at);
+    let n = put(b" = ", out, m);
+    put_tree(words, bytes, root, out, n)
+}
+
+// Writes the definitions from j up to d.
+fn put_definitions(
+    words: &[u64],
+    bytes: &[u8],
+    j: usize,
+    d: usize,
+    out: &mut [u8],
+    at: usize,
+) -> usize
+    requires { ⌜ TableFits (now words) (now bytes) j d at ⌝ }
+    ensures { λ r. ⌜ TableWritten (now (words .entry)) (now (bytes .entry)) j d at (now (out .entry)) (now (out .exit)) r ⌝ }
+{
+    if d <= j {
+        return at;
+    }
+    let m = put_definition(words, bytes, j, out, at);
+    let next = j + 1;
+    if d <= next {
+        return m;
+    }
+    let n = put(b"; ", out, m);
+    put_definitions(words, bytes, next, d, out, n)
+}
+
+// Writes an ad of d definitions at the front of the output.
+fn put_ad(words: &[u64], bytes: &[u8], d: usize, out: &mut [u8])
+    requires { ⌜ TableFits (now words) (now bytes) 0 d 1 ⌝ }
+    ensures { λ _. ⌜ AdWritten (now (words .entry)) (now (bytes .entry)) d (now (out .entry)) (now (out .exit)) ⌝ }
+{
+    put_byte(out, 0, 91);
+    let m = put_definitions(words, bytes, 0, d, out, 1);
+    put_byte(out, m, 93);
+}
+
+// Printing over exactly the room of an ad.
+fn print_room(words: &[u64], bytes: &[u8], out: &mut [u8]) -> Printed
+    requires { ⌜ (length (now words) ≡ 4864) × (length (now bytes) ≡ 16384) ⌝ }
+    ensures { λ r. ⌜ Prints (now (words .entry)) (now (bytes .entry)) (now (out .entry)) (now (out .exit)) r ⌝ }
+{
+    match well_formed::check(words, bytes) {
+        Checked::Malformed => Printed::Refused(10, 0),
+        Checked::WellFormed(d, _, k) => {
+            if out.len() < k {
+                return Printed::Refused(11, 0);
+            }
+            if syntax::TEXT_BYTES < k {
+                return Printed::Refused(11, 0);
+            }
+            put_ad(words, bytes, d, out);
+            Printed::Text(k)
+        }
+    }
+}
+
+// Prints any stored numbers into any output: the length of the text that then stands in front, or a refusal.
+pub fn print(words: &[u64], bytes: &[u8], out: &mut [u8]) -> Printed
+    ensures { λ r. ⌜ Prints (now (words .entry)) (now (bytes .entry)) (now (out .entry)) (now (out .exit)) r ⌝ }
+{
+    if words.len() < ad::WORDS {
+        return Printed::Refused(1, 0);
+    }
+    if bytes.len() < ad::BYTES {
+        return Printed::Refused(1, 0);
+    }
+    print_room(&words[..ad::WORDS], &bytes[..ad::BYTES], out)
+}
+
+// The same, handed back as the front part of the output; nothing of it where it is refused.
+pub fn text<'a>(words: &[u64], bytes: &[u8], out: &'a mut [u8]) -> &'a mut [u8]
+    ensures { λ r. ⌜ HandsBack (now (words .entry)) (now (bytes .entry)) (now (out .entry)) (now r) ⌝ }
+{
+    match print(words, bytes, &mut *out) {
+        Printed::Text(n) => &mut out[..n],
+        Printed::Refused(_, _) => &mut out[..0],
+    }
 }

@@ -174,12 +174,20 @@ unfolding isName startsName isLetter
 name-some [] h = let z : _≡_ {A = ℕ} 0 1 = cc in absurd (omega arith)
 name-some (b ∷ l) h = omega arith
 
-pub ad-complete : (a : Ad) (k : ℕ) (w b : List ℕ) (j n o : ℕ) → Table w b j n o a → length a ≤ k → (length a < k → lengthAt w (j + length a) ≡ 0) → adAt k w b j n o ≡ all a
-unfolding adAt areWritable adLevel nodes adNodes adDefinitions adBytes
-ad-complete [] zero w b j n o t h z = refl
-ad-complete [] (suc k) w b j n o t h z = let e : lengthAt w j ≡ 0 = ap (lengthAt w) (sym (add-zero j)) ∙ z (omega arith) in rw e refl
-ad-complete (d ∷ a) zero w b j n o t h z = absurd (omega arith)
-ad-complete (d ∷ a) (suc k) w b j n o t h z =
+-- the first definition of some, and those behind it
+pub record Row (w b : List ℕ) (j n o : ℕ) (d : Definition) (a : Ad) : Type 0 where
+  pub offset : offsetAt w j ≡ o
+  pub long : lengthAt w j ≡ length (d .name)
+  pub root : rootAt w j ≡ n + size (d .expression) - 1
+  pub name-ok : isName (d .name) ≡ true
+  pub name-stands : Stands b o (d .name)
+  pub shallow : levelOf (d .expression) ≤ maxLevel
+  pub run : Run w b n (n + size (d .expression) - 1) (o + length (d .name)) (d .expression)
+  pub rest : Table w b (j + 1) (n + size (d .expression)) (o + length (d .name) + length (exprBytes (d .expression))) a
+
+pub table-row : {w b : List ℕ} {j n o : ℕ} {d : Definition} {a : Ad} → Table w b j n o (d ∷ a) → Row w b j n o d a
+unfolding areWritable adLevel nodes adNodes adDefinitions adBytes
+table-row {w} {b} {j} {n} {o} {d} {a} t =
     let l = d .name in
     let e = d .expression in
     let O = o + length l + length (exprBytes e) in
@@ -187,27 +195,44 @@ ad-complete (d ∷ a) (suc k) w b j n o t h z =
     let R = n + size e - 1 in
     let some = size-some e in
     let m = and-right (isName l) (isWritable e && areWritable a) (t .writable) in
-    let name-ok = and-left (isName l) (isWritable e && areWritable a) (t .writable) in
-    let b₁ = stands-left b l (exprBytes e ++ adBytes a) o (t .bytes) in
     let b₂ = stands-right b l (exprBytes e ++ adBytes a) o (t .bytes) in
     let N = exprNodes n (o + length l) e in
     let N′ = adNodes (n + size e) O a in
-    let run : Run w b n R (o + length l) e = record {
-      writable = and-left (isWritable e) (areWritable a) m;
-      long = omega arith;
-      words = stands-left w N N′ (4 * n) (t .words);
-      bytes = stands-left b (exprBytes e) (adBytes a) (o + length l) b₂;
-    } in
-    let c : R + 1 ≡ n + size e = omega arith in
     let p : 4 * n + length N ≡ 4 * (n + size e) = omega (arith, length-nodes n (o + length l) e) in
-    let rest : Table w b (j + 1) (n + size e) O a = record {
-      writable = and-right (isWritable e) (areWritable a) m;
+    record {
+      offset = offset-is w j o (length l) R X (t .entries);
+      long = length-is w j o (length l) R X (t .entries);
+      root = root-is w j o (length l) R X (t .entries);
+      name-ok = and-left (isName l) (isWritable e && areWritable a) (t .writable);
+      name-stands = stands-left b l (exprBytes e ++ adBytes a) o (t .bytes);
       shallow = omega (arith, t .shallow);
-      few = omega (arith, t .few);
-      words = stands-at p (stands-right w N N′ (4 * n) (t .words));
-      entries = entries-behind w j o (length l) R X (t .entries);
-      bytes = stands-right b (exprBytes e) (adBytes a) (o + length l) b₂;
-    } in
-    let s₁ : bytesAt b o (length l) ≡ l = bytes-are b l o b₁ in
-    let level : levelOf e ≤ maxLevel = omega (arith, t .shallow) in
-    rw (offset-is w j o (length l) R X (t .entries), length-is w j o (length l) R X (t .entries), root-is w j o (length l) R X (t .entries), ne-eqb (length l) 0 (λ q. omega (arith, name-some l name-ok)), s₁, eq-eqb o o refl, eq-eqb (length l) (length l) refl, name-ok, le-leb n R (omega arith), lt-ltb R maxNodes (omega (arith, t .few)), tree-complete e w b n R (o + length l) run (suc R) (omega arith), le-leb (levelOf e) maxLevel level, c, ad-complete a k w b (j + 1) (n + size e) O rest (omega arith) (λ q. ap (lengthAt w) (let i : j + 1 + length a ≡ j + suc (length a) = omega arith in i) ∙ z (omega arith))) refl
+      run = record {
+        writable = and-left (isWritable e) (areWritable a) m;
+        long = omega arith;
+        words = stands-left w N N′ (4 * n) (t .words);
+        bytes = stands-left b (exprBytes e) (adBytes a) (o + length l) b₂;
+      };
+      rest = record {
+        writable = and-right (isWritable e) (areWritable a) m;
+        shallow = omega (arith, t .shallow);
+        few = omega (arith, t .few);
+        words = stands-at p (stands-right w N N′ (4 * n) (t .words));
+        entries = entries-behind w j o (length l) R X (t .entries);
+        bytes = stands-right b (exprBytes e) (adBytes a) (o + length l) b₂;
+      };
+    }
+
+pub ad-complete : (a : Ad) (k : ℕ) (w b : List ℕ) (j n o : ℕ) → Table w b j n o a → length a ≤ k → (length a < k → lengthAt w (j + length a) ≡ 0) → adAt k w b j n o ≡ all a
+unfolding adAt nodes
+ad-complete [] zero w b j n o t h z = refl
+ad-complete [] (suc k) w b j n o t h z = let e : lengthAt w j ≡ 0 = ap (lengthAt w) (sym (add-zero j)) ∙ z (omega arith) in rw e refl
+ad-complete (d ∷ a) zero w b j n o t h z = absurd (omega arith)
+ad-complete (d ∷ a) (suc k) w b j n o t h z =
+    let l = d .name in
+    let e = d .expression in
+    let O = o + length l + length (exprBytes e) in
+    let R = n + size e - 1 in
+    let some = size-some e in
+    let row = table-row t in
+    let c : R + 1 ≡ n + size e = omega arith in
+    rw (row .offset, row .long, row .root, ne-eqb (length l) 0 (λ q. omega (arith, name-some l (row .name-ok))), bytes-are b l o (row .name-stands), eq-eqb o o refl, eq-eqb (length l) (length l) refl, row .name-ok, le-leb n R (omega arith), lt-ltb R maxNodes (omega (arith, t .few)), tree-complete e w b n R (o + length l) (row .run) (suc R) (omega arith), le-leb (levelOf e) maxLevel (row .shallow), c, ad-complete a k w b (j + 1) (n + size e) O (row .rest) (omega arith) (λ q. ap (lengthAt w) (let i : j + 1 + length a ≡ j + suc (length a) = omega arith in i) ∙ z (omega arith))) refl

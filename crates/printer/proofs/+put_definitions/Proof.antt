@@ -1,0 +1,97 @@
+use mathlib.Core.Path.{_≡_, refl, sym, _∙_, ap, subst}
+use mathlib.Core.List.{List, [], _∷_, _++_}
+use Prim.Native.Nat.{ℕ, zero, suc, _+_, _-_, _*_, _≤_, _<_}
+use lib.ListN.{length, length-append}
+use Rattle.syntax.specs.Print.{literalText, printed}
+use Rattle.text.specs.Bytes.{bytes}
+use Rattle.writer.proofs.Laws.{puts-as, puts-join}
+use Rattle.printer.proofs.Ads.{none-written, row-fits, one-row, semicolon-near, rest-fits, more-rows}
+use borrow.Author.Needs.{needs}
+use native.Mathlib.Omega.{arith}
+use Prim.Native.Nat.{ℕ, _<_}
+use borrow.Fn.Kinds.{In}
+use borrow.Fn.PlainCycle.{Measures, is, falls, and}
+use Rattle.printer.proofs.put_definitions.Reads as put-definitions
+use Rattle.printer.proofs.put_definitions.Kinds as put-definitions-kinds
+use Rattle.printer.proofs.+put_definitions.Lts-put_definitions as put-definitions-lts
+use Rattle.printer.proofs.put_definition.Reads as put-definition-reads
+use Rattle.writer.proofs.put.Reads as put-reads
+use Rattle.printer.proofs.+put_definitions.{statement}
+use Rattle.printer.proofs.+put_definitions.Tie.{close}
+
+abbrev μ-put-definitions : Measures 3 put-definitions-kinds.ps ℕ
+μ-put-definitions κs a = a .1 .1 .1 .0 - a .1 .1 .0
+
+abbrev put-definitions-at : ℕ → In 3 put-definitions-kinds.ps
+put-definitions-at t =
+    and
+    3
+    put-definitions-kinds.ps
+    (is 3 put-definitions-kinds.ps μ-put-definitions t)
+    put-definitions.Pre
+
+abbrev put-definitions-below : ℕ → In 3 put-definitions-kinds.ps
+put-definitions-below t =
+    and
+    3
+    put-definitions-kinds.ps
+    (falls 3 put-definitions-kinds.ps _<_ μ-put-definitions t)
+    put-definitions.Pre
+
+abbrev put-definitions-claims : ℕ → put-definitions-lts.Claims
+put-definitions-claims t = (put-definition-reads.Asked, put-definition-reads.Learnt, put-reads.Asked, put-reads.Learnt, put-definitions-below t, put-definitions.Post)
+
+put-definitions-returns : (t : ℕ) → put-definitions-lts.Need-returns (put-definitions-claims t) (put-definitions-at t) put-definitions.Post
+put-definitions-returns t c = none-written (c .before .before .before .before .args .words .now) (c .before .before .before .before .args .bytes .now) (c .before .before .before .before .args .j) (c .before .before .before .before .args .d) (c .before .before .before .before .args .at) _ (c .if1 .taken)
+
+put-definitions-put-definition-requires :
+    (t : ℕ) → put-definitions-lts.Need-put-definition-requires (
+      put-definition-reads.Asked,
+      put-definition-reads.Learnt,
+      put-reads.Asked,
+      put-reads.Learnt,
+      put-definitions-below t,
+      put-definitions.Post,
+    ) (put-definitions-at t) put-definitions.Post
+put-definitions-put-definition-requires t c κs = row-fits (c .before .before .before .before .before .args .words .now) (c .before .before .before .before .before .args .bytes .now) (c .before .before .before .before .before .args .j) (c .before .before .before .before .before .args .d) (let h : c .before .before .before .before .before .args .j < c .before .before .before .before .before .args .d = omega (arith, c .before .if1 .left) in h) (c .before .before .before .before .before .args .at) (c .before .before .before .before .before .pre .1)
+
+put-definitions-add-next : (t : ℕ) → put-definitions-lts.Need-add-next (put-definitions-claims t) (put-definitions-at t) put-definitions.Post
+put-definitions-add-next t c = omega (arith, (c .before .before .before .before .before .before .before .before .pre .1) .few)
+
+put-definitions-returns-2 : (t : ℕ) → put-definitions-lts.Need-returns-2 (put-definitions-claims t) (put-definitions-at t) put-definitions.Post
+put-definitions-returns-2 t c = one-row (c .before .before .before .before .before .before .before .before .before .args .words .now) (c .before .before .before .before .before .before .before .before .before .args .bytes .now) (c .before .before .before .before .before .before .before .before .before .args .j) (c .before .before .before .before .before .before .before .before .before .args .d) (let h : c .before .before .before .before .before .before .before .before .before .args .j < c .before .before .before .before .before .before .before .before .before .args .d = omega (arith, c .before .before .before .before .before .if1 .left) in h) (c .before .before .before .before .before .before .before .before .before .args .at) _ _ _ (c .if2 .taken) (c .before .before .before .put-definition .ensures)
+
+put-definitions-put-requires : (t : ℕ) → put-definitions-lts.Need-put-requires (put-definitions-claims t) (put-definitions-at t) put-definitions.Post
+unfolding bytes
+put-definitions-put-requires t c κs = semicolon-near (c .before .before .before .before .before .before .before .before .before .before .before .args .words .now) (c .before .before .before .before .before .before .before .before .before .before .before .args .bytes .now) (c .before .before .before .before .before .before .before .before .before .before .before .args .j) (c .before .before .before .before .before .before .before .before .before .before .before .args .d) (let h : c .before .before .before .before .before .before .before .before .before .before .before .args .j < c .before .before .before .before .before .before .before .before .before .before .before .args .d = omega (arith, c .before .before .before .before .before .before .before .if1 .left) in h) (let h : c .before .before .before .before .before .before .before .before .before .before .before .args .j + 1 < c .before .before .before .before .before .before .before .before .before .before .before .args .d = omega (arith, c .before .before .if2 .left) in h) (c .before .before .before .before .before .before .before .before .before .before .before .args .at) _ _ _ (c .before .before .before .before .before .before .before .before .before .before .before .pre .1) (c .before .before .before .before .before .put-definition .ensures)
+
+put-definitions-put-definitions-requires :
+    (t : ℕ) → put-definitions-lts.Need-put-definitions-requires (
+      put-definition-reads.Asked,
+      put-definition-reads.Learnt,
+      put-reads.Asked,
+      put-reads.Learnt,
+      put-definitions-below t,
+      put-definitions.Post,
+    ) (put-definitions-at t) put-definitions.Post
+unfolding bytes
+put-definitions-put-definitions-requires t c κs = (omega (arith, c .before .before .before .before .before .before .before .before .before .before .before .before .before .before .before .pre .0), rest-fits (c .before .before .before .before .before .before .before .before .before .before .before .before .before .before .before .args .words .now) (c .before .before .before .before .before .before .before .before .before .before .before .before .before .before .before .args .bytes .now) (c .before .before .before .before .before .before .before .before .before .before .before .before .before .before .before .args .j) (c .before .before .before .before .before .before .before .before .before .before .before .before .before .before .before .args .d) (let h : c .before .before .before .before .before .before .before .before .before .before .before .before .before .before .before .args .j < c .before .before .before .before .before .before .before .before .before .before .before .before .before .before .before .args .d = omega (arith, c .before .before .before .before .before .before .before .before .before .before .before .if1 .left) in h) (let h : c .before .before .before .before .before .before .before .before .before .before .before .before .before .before .before .args .j + 1 < c .before .before .before .before .before .before .before .before .before .before .before .before .before .before .before .args .d = omega (arith, c .before .before .before .before .before .before .if2 .left) in h) (c .before .before .before .before .before .before .before .before .before .before .before .before .before .before .before .args .at) _ (c .before .before .before .put .result) _ _ (c .before .before .before .before .before .before .before .before .before .before .before .before .before .before .before .pre .1) (c .before .before .before .before .before .before .before .before .before .put-definition .ensures) (c .before .before .before .put .ensures .behind))
+
+put-definitions-returns-3 : (t : ℕ) → put-definitions-lts.Need-returns-3 (put-definitions-claims t) (put-definitions-at t) put-definitions.Post
+unfolding bytes
+put-definitions-returns-3 t c = more-rows (c .before .before .before .before .before .before .before .before .before .before .before .before .before .before .before .before .before .before .args .words .now) (c .before .before .before .before .before .before .before .before .before .before .before .before .before .before .before .before .before .before .args .bytes .now) (c .before .before .before .before .before .before .before .before .before .before .before .before .before .before .before .before .before .before .args .j) (c .before .before .before .before .before .before .before .before .before .before .before .before .before .before .before .before .before .before .args .d) (let h : c .before .before .before .before .before .before .before .before .before .before .before .before .before .before .before .before .before .before .args .j < c .before .before .before .before .before .before .before .before .before .before .before .before .before .before .before .before .before .before .args .d = omega (arith, c .before .before .before .before .before .before .before .before .before .before .before .before .before .before .if1 .left) in h) (let h : c .before .before .before .before .before .before .before .before .before .before .before .before .before .before .before .before .before .before .args .j + 1 < c .before .before .before .before .before .before .before .before .before .before .before .before .before .before .before .before .before .before .args .d = omega (arith, c .before .before .before .before .before .before .before .before .before .if2 .left) in h) (c .before .before .before .before .before .before .before .before .before .before .before .before .before .before .before .before .before .before .args .at) _ _ _ _ _ _ _ (c .before .before .before .before .before .before .before .before .before .before .before .before .put-definition .ensures) (c .before .before .before .before .before .before .put .ensures) (c .before .before .put-definitions .ensures)
+
+pub +put-definitions-spec : {M : Type 1} → statement M
++put-definitions-spec = close μ-put-definitions λ t. put-definitions-lts.spec (put-definitions-claims t)
+    (put-definitions-at t)
+    put-definitions.Post
+    (put-definitions-returns t)
+    (put-definitions-put-definition-requires t)
+    (put-definitions-add-next t)
+    (λ c. search needs)
+    (put-definitions-returns-2 t)
+    (λ c. search needs)
+    (put-definitions-put-requires t)
+    (put-definitions-put-definitions-requires t)
+    (λ c. search needs)
+    (put-definitions-returns-3 t)

@@ -1,0 +1,219 @@
+-- What each way through the writers of definitions, and through printing, gives. Assumes nothing.
+use Prim.Native.Nat.{ℕ, zero, suc, _+_, _-_, _≤_, _<_}
+use native.Mathlib.Nat.{add-zero, zero-add}
+use native.Mathlib.Omega.{arith}
+use mathlib.Core.Path.{_≡_, refl, sym, _∙_, ap, subst}
+use mathlib.Core.Logic.{_⊎_, inl, inr}
+use mathlib.Core.List.{List, [], _∷_, _++_}
+use lib.ListN.{length, set, take, drop, length-append, length-take}
+use lib.Seq.{sets, sets-eq, take-all, take-at, length-take-le}
+use Rattle.text.specs.Bytes.{bytes}
+use Rattle.syntax.specs.Tree.{Expr, Definition, Ad, size}
+use Rattle.syntax.specs.Print.{printed, definitionText, definitionsText, printedAd}
+use Rattle.ad.specs.Stored.{offsetAt, lengthAt, rootAt, bytesAt}
+use Rattle.ad.specs.Laws.Content.{size-some}
+use Rattle.writer.specs.Put.{Puts, Near}
+use Rattle.writer.proofs.Laws.{puts-byte, puts-join, puts-as}
+use Rattle.well_formed.specs.WellFormed.{Holds, Answers}
+use Rattle.well_formed.specs.Laws.Runs.{bytes-are}
+use Rattle.well_formed.specs.Laws.Leaves.{Run}
+use Rattle.well_formed.specs.Laws.Definitions.{Table, Row, table-row}
+use Rattle.well_formed.specs.Laws.Whole.{holds-table, holds-long}
+use Rattle.well_formed.specs.declared.Checked.the-variants.{WellFormed, Malformed}
+use Rattle.printer.specs.Post.{Fits, Written, RowFits, RowWritten, TableFits, TableWritten, AdWritten}
+use Rattle.printer.specs.Prints.{Roomy, Stored, Fitting, Refuses, small, malformed, long, Prints, HandsBack}
+use Rattle.printer.specs.declared.Printed.{Printed}
+use Rattle.printer.specs.declared.Printed.the-variants.{Text, Refused}
+
+-- ---- a definition
+
+length-definition : (d : Definition) → length (definitionText d) ≡ length (d .name) + 3 + length (printed (d .expression))
+unfolding bytes
+length-definition d = omega (arith, length-append (d .name) (bytes " = " ++ printed (d .expression)))
+
+module _ (w b : List ℕ) (j : ℕ) where
+  name-is : (d : Definition) (a : Ad) (n k : ℕ) → Table w b j n k (d ∷ a) → bytesAt b (offsetAt w j) (lengthAt w j) ≡ d .name
+  name-is d a n k t = let r = table-row t in rw (r .offset, r .long) (bytes-are b (d .name) k (r .name-stands))
+
+  module _ (at : ℕ) (f : RowFits w b j at) where
+    pub name-near : Near at (bytesAt b (offsetAt w j) (lengthAt w j))
+    name-near = rw (name-is (f .first) (f .others) (f .node) (f .byte) (f .table)) (omega (arith, f .near, length-definition (f .first)))
+
+    module _ (m : ℕ) (e : m ≡ at + length (bytesAt b (offsetAt w j) (lengthAt w j))) where
+      here : m ≡ at + length (f .first .name)
+      here = rw (name-is (f .first) (f .others) (f .node) (f .byte) (f .table)) at e
+
+      pub equals-near : m + 3 ≤ 1000000
+      equals-near = omega (arith, here, f .near, length-definition (f .first))
+
+      pub root-fits : (n : ℕ) → n ≡ m + 3 → Fits printed w b (rootAt w j) n
+      root-fits n g =
+          let r = table-row (f .table) in
+          let t = f .table .few in
+          let e = f .first .expression in
+          let s = size-some e in
+          let root : rootAt w j ≡ f .node + size e - 1 = r .root in
+          record {
+            words = f .words;
+            node = omega (arith, r .rest .few);
+            tree = e;
+            first = f .node;
+            byte = f .byte + length (f .first .name);
+            stands = subst (λ (x : ℕ). Run w b (f .node) x (f .byte + length (f .first .name)) e) (sym (r .root)) (r .run);
+            near = omega (arith, here, f .near, length-definition (f .first));
+          }
+
+  pub row-written : (at m n r : ℕ) (o o₁ o₂ o₃ : List ℕ) → Puts (bytesAt b (offsetAt w j) (lengthAt w j)) o at o₁ m → Puts (bytes " = ") o₁ m o₂ n → Written printed w b (rootAt w j) n o₂ o₃ r → RowWritten w b j at o o₃ r
+  row-written at m n r o o₁ o₂ o₃ name equals tree d a node byte t =
+      let row = table-row t in
+      let e = d .expression in
+      puts-join (puts-as (name-is d a node byte t) name) (puts-join equals (tree e node (byte + length (d .name)) (subst (λ (x : ℕ). Run w b node x (byte + length (d .name)) e) (sym (row .root)) (row .run))))
+
+  -- ---- definitions
+
+  module _ (d : ℕ) where
+    pub none-written : (at : ℕ) (o : List ℕ) → d ≤ j → TableWritten w b j d at o o at
+    unfolding definitionsText
+    none-written at o h [] n k t e = record { behind = sym (add-zero at); written = refl }
+    none-written at o h (x ∷ a) n k t e = absurd (omega arith)
+
+    module _ (lt : j < d) where
+      fits-of : (at : ℕ) (a : Ad) (n k : ℕ) → 4864 ≤ length w → d ≤ 256 → Table w b j n k a → d ≡ j + length a → Near at (definitionsText a) → RowFits w b j at
+      unfolding definitionsText
+      fits-of at [] n k hw hd t e near = absurd (omega arith)
+      fits-of at (x ∷ []) n k hw hd t e near = record { words = hw; few = omega arith; first = x; others = []; node = n; byte = k; table = t; near = near }
+      fits-of at (x ∷ y ∷ a) n k hw hd t e near = record { words = hw; few = omega arith; first = x; others = y ∷ a; node = n; byte = k; table = t; near = omega (arith, length-append (definitionText x) (bytes "; " ++ definitionsText (y ∷ a))) }
+
+      pub row-fits : (at : ℕ) → TableFits w b j d at → RowFits w b j at
+      row-fits at f = fits-of at (f .ad) (f .node) (f .byte) (f .words) (f .few) (f .table) (f .count) (f .near)
+
+      pub one-row : (at r : ℕ) (o o₁ : List ℕ) → d ≤ j + 1 → RowWritten w b j at o o₁ r → TableWritten w b j d at o o₁ r
+      unfolding definitionsText
+      one-row at r o o₁ h row [] n k t e = absurd (omega arith)
+      one-row at r o o₁ h row (x ∷ []) n k t e = row x [] n k t
+      one-row at r o o₁ h row (x ∷ y ∷ a) n k t e = absurd (omega arith)
+
+      module _ (more : j + 1 < d) where
+        semicolon-of : (at m : ℕ) (o o₁ : List ℕ) (a : Ad) (n k : ℕ) → Table w b j n k a → d ≡ j + length a → Near at (definitionsText a) → RowWritten w b j at o o₁ m → m + 2 ≤ 1000000
+        unfolding definitionsText bytes
+        semicolon-of at m o o₁ [] n k t e near row = absurd (omega arith)
+        semicolon-of at m o o₁ (x ∷ []) n k t e near row = absurd (omega arith)
+        semicolon-of at m o o₁ (x ∷ y ∷ a) n k t e near row = omega (arith, length-append (definitionText x) (bytes "; " ++ definitionsText (y ∷ a)), row x (y ∷ a) n k t .behind)
+
+        pub semicolon-near : (at m : ℕ) (o o₁ : List ℕ) → TableFits w b j d at → RowWritten w b j at o o₁ m → m + 2 ≤ 1000000
+        semicolon-near at m o o₁ f row = semicolon-of at m o o₁ (f .ad) (f .node) (f .byte) (f .table) (f .count) (f .near) row
+
+        rest-of : (at m n : ℕ) (o o₁ : List ℕ) (a : Ad) (p k : ℕ) → 4864 ≤ length w → d ≤ 256 → Table w b j p k a → d ≡ j + length a → Near at (definitionsText a) → RowWritten w b j at o o₁ m → n ≡ m + 2 → TableFits w b (j + 1) d n
+        unfolding definitionsText bytes
+        rest-of at m n o o₁ [] p k hw hd t e near row g = absurd (omega arith)
+        rest-of at m n o o₁ (x ∷ []) p k hw hd t e near row g = absurd (omega arith)
+        rest-of at m n o o₁ (x ∷ y ∷ a) p k hw hd t e near row g = record {
+          words = hw;
+          few = hd;
+          ad = y ∷ a;
+          node = _;
+          byte = _;
+          table = table-row t .rest;
+          count = omega arith;
+          near = omega (arith, length-append (definitionText x) (bytes "; " ++ definitionsText (y ∷ a)), row x (y ∷ a) p k t .behind);
+        }
+
+        pub rest-fits : (at m n : ℕ) (o o₁ : List ℕ) → TableFits w b j d at → RowWritten w b j at o o₁ m → n ≡ m + 2 → TableFits w b (j + 1) d n
+        rest-fits at m n o o₁ f row g = rest-of at m n o o₁ (f .ad) (f .node) (f .byte) (f .words) (f .few) (f .table) (f .count) (f .near) row g
+
+        pub more-rows : (at m n r : ℕ) (o o₁ o₂ o₃ : List ℕ) → RowWritten w b j at o o₁ m → Puts (bytes "; ") o₁ m o₂ n → TableWritten w b (j + 1) d n o₂ o₃ r → TableWritten w b j d at o o₃ r
+        unfolding definitionsText
+        more-rows at m n r o o₁ o₂ o₃ row sep rest [] p k t e = absurd (omega arith)
+        more-rows at m n r o o₁ o₂ o₃ row sep rest (x ∷ []) p k t e = absurd (omega arith)
+        more-rows at m n r o o₁ o₂ o₃ row sep rest (x ∷ y ∷ a) p k t e = puts-join (row x (y ∷ a) p k t) (puts-join sep (rest (y ∷ a) _ _ (table-row t .rest) (omega arith)))
+
+-- ---- an ad
+
+pub ad-written : (w b : List ℕ) (d m : ℕ) (o o₁ o₂ o₃ : List ℕ) → o₁ ≡ set o 0 91 → TableWritten w b 0 d 1 o₁ o₂ m → o₃ ≡ set o₂ m 93 → AdWritten w b d o o₃
+unfolding printedAd
+ad-written w b d m o o₁ o₂ o₃ e t g a x c =
+    puts-join (puts-byte 91 o o₁ 0 e) (puts-join (t a 0 0 x (c ∙ sym (zero-add (length a)))) (puts-byte 93 o₂ o₃ m g)) .written
+
+-- ---- printing
+
+length-ad : (a : Ad) → length (printedAd a) ≡ length (definitionsText a) + 2
+unfolding printedAd
+length-ad a = omega (arith, length-append (definitionsText a) (93 ∷ []))
+
+module _ (w b o : List ℕ) (hw : length w ≡ 4864) (hb : length b ≡ 16384) where
+  room : Roomy w b
+  room = record { words = omega arith; bytes = omega arith }
+
+  pub print-malformed : Answers w b Malformed → Prints w b o o (Refused 10 0)
+  print-malformed h = (malformed room h, refl, refl)
+
+  module _ (d n k : ℕ) (h : Answers w b (WellFormed d n k)) where
+    same-words : take 4864 w ≡ w
+    same-words = take-all 4864 w (omega arith)
+
+    same-bytes : take 16384 b ≡ b
+    same-bytes = take-all 16384 b (omega arith)
+
+    table : Table w b 0 0 0 (h .0)
+    table = holds-table w b hw hb (h .0) (subst (λ (x : List ℕ). Holds x b (h .0)) same-words (subst (λ (x : List ℕ). Holds (take 4864 w) x (h .0)) same-bytes (h .1))) .0
+
+    pub print-long : length o < k → Prints w b o o (Refused 11 0)
+    print-long g = (long room (h .1) (λ f. omega (arith, h .4, f .lent)), refl, refl)
+
+    pub print-longer : 16384 < k → Prints w b o o (Refused 11 0)
+    print-longer g = (long room (h .1) (λ f. omega (arith, h .4, f .bounded)), refl, refl)
+
+    pub print-fits : k ≤ 16384 → TableFits w b 0 d 1
+    print-fits g = record {
+      words = omega arith;
+      few = let z : length (h .0) ≤ 256 = h .1 .bounded .within .few-definitions in omega (arith, h .2);
+      ad = h .0;
+      node = 0;
+      byte = 0;
+      table = table;
+      count = h .2 ∙ sym (zero-add (length (h .0)));
+      near = omega (arith, h .4, length-ad (h .0));
+    }
+
+    pub print-text : (o₁ : List ℕ) → k ≤ length o → k ≤ 16384 → AdWritten w b d o o₁ → Prints w b o o₁ (Text k)
+    print-text o₁ g f x =
+        let a = h .0 in
+        let e : 0 + length (printedAd a) ≡ k = omega (arith, h .4) in
+        (a, h .1, record { lent = omega (arith, h .4); bounded = omega (arith, h .4) }, h .4, x a table (h .2) ∙ (sets-eq (printedAd a) o 0 (omega (arith, h .4)) ∙ ap (λ (m : ℕ). printedAd a ++ drop m o) e))
+
+pub small-words : (w b o : List ℕ) → length w < 4864 → Prints w b o o (Refused 1 0)
+small-words w b o h = (small (λ r. omega (arith, r .words)), refl, refl)
+
+pub small-bytes : (w b o : List ℕ) → length b < 16384 → Prints w b o o (Refused 1 0)
+small-bytes w b o h = (small (λ r. omega (arith, r .bytes)), refl, refl)
+
+module _ (w b o o₁ : List ℕ) (hw : 4864 ≤ length w) (hb : 16384 ≤ length b) where
+  whole : Roomy w b
+  whole = record { words = hw; bytes = hb }
+
+  front-stored : (a : Ad) → Stored (take 4864 w) (take 16384 b) a → Stored w b a
+  front-stored a s = subst (λ (x : List ℕ). Holds x (take 16384 b) a) (take-all 4864 (take 4864 w) (omega (arith, length-take-le 4864 w hw))) (subst (λ (x : List ℕ). Holds (take 4864 (take 4864 w)) x a) (take-all 16384 (take 16384 b) (omega (arith, length-take-le 16384 b hb))) s)
+
+  stored-front : (a : Ad) → Stored w b a → Stored (take 4864 w) (take 16384 b) a
+  stored-front a s = subst (λ (x : List ℕ). Holds x (take 16384 (take 16384 b)) a) (sym (take-all 4864 (take 4864 w) (omega (arith, length-take-le 4864 w hw)))) (subst (λ (x : List ℕ). Holds (take 4864 w) x a) (sym (take-all 16384 (take 16384 b) (omega (arith, length-take-le 16384 b hb)))) s)
+
+  front-room : Roomy (take 4864 w) (take 16384 b)
+  front-room = record { words = omega (arith, length-take-le 4864 w hw); bytes = omega (arith, length-take-le 16384 b hb) }
+
+  refused-front : {k : ℕ} → Refuses (take 4864 w) (take 16384 b) o k → Refuses w b o k
+  refused-front (small n) = absurd (n front-room)
+  refused-front (malformed r n) = malformed whole (λ a s. n a (stored-front a s))
+  refused-front (long r {a} s n) = long whole (front-stored a s) n
+
+  pub prints-front : (r : Printed) → Prints (take 4864 w) (take 16384 b) o o₁ r → Prints w b o o₁ r
+  prints-front (Text n) h = (h .0, front-stored (h .0) (h .1), h .2, h .3, h .4)
+  prints-front (Refused k p) h = (refused-front (h .0), h .1, h .2)
+
+-- ---- the text handed back
+
+module _ (w b o o₁ : List ℕ) where
+  pub text-back : (n : ℕ) → Prints w b o o₁ (Text n) → (n ≤ length o₁) × HandsBack w b o (take n o₁)
+  text-back n h = (omega (arith, ap length (h .4), length-append (printedAd (h .0)) (drop n o), h .3), inl (h .0, h .1, h .2, ap (take n) (h .4) ∙ take-at (printedAd (h .0)) (drop n o) n (sym (h .3))))
+
+  pub none-back : (k p : ℕ) → Prints w b o o₁ (Refused k p) → HandsBack w b o []
+  none-back k p h = inr (k, h .0, refl)

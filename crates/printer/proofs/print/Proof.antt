@@ -1,0 +1,35 @@
+use mathlib.Core.Path.{_≡_, refl, sym, _∙_, ap, subst}
+use mathlib.Core.List.{List, [], _∷_, _++_}
+use Prim.Native.Nat.{ℕ, zero, suc, _+_, _-_, _*_, _≤_, _<_}
+use lib.ListN.{length, length-append}
+use lib.Seq.{length-take-le}
+use Rattle.printer.proofs.Ads.{small-words, small-bytes, prints-front}
+use native.Mathlib.Omega.{arith}
+use borrow.Author.Needs.{needs}
+use Rattle.printer.proofs.print.Statement.{statement}
+use Rattle.printer.proofs.print.Tie as tie
+use Rattle.printer.proofs.print.Reads as reads
+use Rattle.printer.proofs.print.Lts as lts
+use Rattle.printer.proofs.print_room.Reads as print-room-reads
+
+returns : tie.Need-returns
+returns c = small-words (c .before .before .before .before .args .words .now) (c .before .before .before .before .args .bytes .now) _ (c .if1 .taken)
+
+returns-2 : tie.Need-returns-2
+returns-2 c = small-bytes (c .before .before .before .before .before .args .words .now) (c .before .before .before .before .before .args .bytes .now) _ (c .if2 .taken)
+
+slice-aggregate-print-room : tie.Need-slice-aggregate-print-room
+slice-aggregate-print-room c = sym (length-take-le 4864 (c .before .before .before .before .before .before .args .words .now) (c .before .before .if1 .left))
+
+slice-aggregate-print-room-2 : tie.Need-slice-aggregate-print-room-2
+slice-aggregate-print-room-2 c = sym (length-take-le 16384 (c .before .before .before .before .before .before .before .args .bytes .now) (c .before .before .if2 .left))
+
+print-room-requires : tie.Need-print-room-requires
+print-room-requires c κs = (length-take-le 4864 (c .before .before .before .before .before .before .before .before .args .words .now) (c .before .before .before .before .if1 .left), length-take-le 16384 (c .before .before .before .before .before .before .before .before .args .bytes .now) (c .before .before .before .if2 .left))
+
+returns-3 : tie.Need-returns-3
+returns-3 c = prints-front (c .before .before .before .before .before .before .before .before .before .before .before .args .words .now) (c .before .before .before .before .before .before .before .before .before .before .before .args .bytes .now) _ _ (c .before .before .before .before .before .before .before .if1 .left) (c .before .before .before .before .before .before .if2 .left) (c .before .before .print-room .result) (c .before .before .print-room .ensures)
+
+pub print-spec : {M : Type 1} → statement M
+print-spec = tie.close (tie.spec
+    returns returns-2 slice-aggregate-print-room slice-aggregate-print-room-2 print-room-requires (λ c. search needs) returns-3)
