@@ -13,6 +13,9 @@ use Rattle.well_formed.specs.WellFormed.{Holds}
 use Rattle.well_formed.specs.declared.Checked.{Checked}
 use Rattle.well_formed.specs.declared.Checked.the-variants.{WellFormed, Malformed}
 use Rattle.matching.specs.Matching.{Matched}
+use Rattle.ordering.specs.Ordering.{Ordered}
+use Rattle.ordering.specs.declared.Order.{Order}
+use Rattle.ordering.specs.declared.Order.the-variants as order
 use Rattle.matching.specs.declared.Outcome.{Outcome}
 use Rattle.matching.specs.declared.Outcome.the-variants.{Refused, Finished, Unfinished}
 
@@ -45,3 +48,15 @@ pub data CheckReported (w b n : List ℕ) : Type 0 where
   no-room : smallAd w b ≡ true → n ≡ 1 ∷ 0 ∷ 0 ∷ 0 ∷ [] → CheckReported w b n
   malformed : smallAd w b ≡ false → ((a : Ad) → ¬ (Holds (take adWords w) (take adBytesRoom b) a)) → n ≡ 10 ∷ 0 ∷ 0 ∷ 0 ∷ [] → CheckReported w b n
   well-formed : smallAd w b ≡ false → (a : Ad) → Holds (take adWords w) (take adBytesRoom b) a → n ≡ 0 ∷ length a ∷ nodes a ∷ length (printedAd a) ∷ [] → CheckReported w b n
+
+-- the refusal's number or 0, the transitions and the length of the list: 'its result carrying a count'
+abbrev pub orderNumbers : Order → List ℕ
+orderNumbers (order.Refused k p) = k ∷ 0 ∷ 0 ∷ []
+orderNumbers (order.Found count len) = 0 ∷ count ∷ len ∷ []
+
+-- THE CONTRACT OF `classad_dependencies`: n are the three numbers after it. 'Every public function says what it returns and what each
+-- lent slice then holds, whatever came in, refused calls too'
+pub record OrderReported (v b w c flags list flags′ list′ n : List ℕ) : Type 0 where
+  pub answer : Order
+  pub orders : Ordered v b w c flags list flags′ list′ answer
+  pub tells : n ≡ orderNumbers answer

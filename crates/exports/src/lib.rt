@@ -9,9 +9,12 @@ ghost use Rattle.slots.specs.declared.Slot.the-variants.{Held};
 ghost use Rattle.slots.specs.Packed.{slotAt, Stored};
 ghost use Rattle.exports.specs.Exports.{binaryOf, unaryOf, binarySlot, unarySlot, conditionalSlot};
 ghost use Rattle.exports.specs.Reading.{numbersOf, Reported};
-ghost use Rattle.exports.specs.Matching.{checkNumbers, CheckReported, outcomeNumbers, MatchReported};
+ghost use Rattle.exports.specs.Matching.{checkNumbers, CheckReported, outcomeNumbers, MatchReported, orderNumbers, OrderReported};
+ghost use Rattle.exports.specs.Printing.{printNumbers, PrintReported};
 ghost use mathlib.Core.Bool.{cond};
 use matching::Outcome;
+use ordering::Order;
+use printer::Printed;
 use reader::Answer;
 use slots::Slot;
 use syntax::Binary;
@@ -247,4 +250,54 @@ pub extern "C" fn classad_match(
 {
     let outcome = matching::match_ads(v, b, w, c, table, list, budget);
     *answer = outcome_numbers(outcome);
+}
+
+// What printing answers, as two numbers.
+fn print_numbers(answer: Printed) -> [u64; 2]
+    ensures { λ r. ⌜ r ≡ printNumbers answer ⌝ }
+{
+    match answer {
+        Printed::Text(n) => [0, n as u64],
+        Printed::Refused(k, _) => [k as u64, 0],
+    }
+}
+
+// Prints any numbers that may be a stored ad into any lent output.
+#[no_mangle]
+pub extern "C" fn classad_print(
+    words: &[u64],
+    bytes: &[u8],
+    output: &mut [u8],
+    answer: &mut [u64; 2],
+)
+    ensures { λ _. ⌜ PrintReported (now (words .entry)) (now (bytes .entry)) (now (output .entry)) (now (output .exit)) (now (answer .exit)) ⌝ }
+{
+    *answer = print_numbers(printer::print(words, bytes, output));
+}
+
+// What the order answers, as three numbers.
+fn order_numbers(answer: Order) -> [u64; 3]
+    ensures { λ r. ⌜ r ≡ orderNumbers answer ⌝ }
+{
+    match answer {
+        Order::Refused(k, _) => [k as u64, 0, 0],
+        Order::Found(n, l) => [0, n as u64, l as u64],
+    }
+}
+
+// Flags the circular references and lists the evaluation order of any numbers that may be two stored ads.
+#[no_mangle]
+pub extern "C" fn classad_dependencies(
+    v: &[u64],
+    b: &[u8],
+    w: &[u64],
+    c: &[u8],
+    flags: &mut [usize],
+    list: &mut [u64],
+    answer: &mut [u64; 3],
+)
+    ensures { λ _. ⌜ OrderReported (now (v .entry)) (now (b .entry)) (now (w .entry)) (now (c .entry)) (now (flags .entry)) (now (list .entry)) (now (flags .exit)) (now (list .exit)) (now (answer .exit)) ⌝ }
+{
+    let order = ordering::order_ads(v, b, w, c, flags, list);
+    *answer = order_numbers(order);
 }

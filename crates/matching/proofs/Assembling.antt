@@ -10,14 +10,10 @@ use lib.Seq.{take-all, take-append-seam}
 use Rattle.graph.specs.Members.{_∈_, here, there, Each, numbers, raised}
 use Rattle.graph.specs.Laws.Members.{mem-nil, mem-left, mem-right, at-mem}
 use Rattle.graph.specs.Graph.{Graph, Sound, Node, Circular, Flags, needs, Entered}
-use Rattle.graph.specs.Transition.{State, searches, transitions, first, Ended}
-use Rattle.graph.specs.declared.Place.{Place}
-use Rattle.graph.specs.declared.Place.the-variants.{Between}
 use Rattle.graph.specs.Laws.Traversal.{needs-links, needs-acyclic}
 use Rattle.links.specs.Pair.{pairGraph, rootsOf, requirements, rank, Formed, Stands}
 use Rattle.links.specs.Laws.Soundness.{pair-sound}
-use Rattle.marks.specs.Memory.{view, marksRoom}
-use Rattle.dependency.specs.Traversal.{Ready, Traversed}
+use Rattle.dependency.specs.Traversal.{Traversed}
 use Rattle.dependency.specs.Laws.Use.{clear-zeros, needs-led}
 use Rattle.values.specs.declared.Value.{Value}
 use Rattle.slots.specs.declared.Slot.{Slot}
@@ -30,8 +26,9 @@ use Rattle.valuation.specs.Laws.Values.{entered-in}
 use Rattle.valuation.specs.Laws.Transfer.{entered-part}
 use Rattle.valuation.specs.Laws.Runs.{run-ran}
 use Rattle.evaluation.specs.Evaluation.{ruleAt, seen, needed, entries, stepsWords, RunTo, AtRun}
-use Rattle.matching.specs.Matching.{isTrue, rankOf, Worth, Concluded, Counted, Match}
-use Rattle.matching.specs.Laws.Concluding.{flags-same, worth-of, roots-first, roots-second, ranks-first, ranks-second}
+use Rattle.matching.specs.Matching.{isTrue, rankOf, Worth, Concluded, Match}
+use Rattle.matching.specs.Laws.Traversed.{entered-of, counted-of}
+use Rattle.matching.specs.Laws.Concluding.{worth-of, roots-first, roots-second, ranks-first, ranks-second}
 use Rattle.matching.specs.declared.Outcome.{Outcome}
 use Rattle.matching.specs.declared.Outcome.the-variants.{Finished, Unfinished}
 
@@ -40,26 +37,6 @@ pub finished-by : (steps count : ℕ) {p q r x y : Bool} {i j m n : ℕ} → r �
 finished-by steps count {p} {q} {r} {x} {y} {i} {j} {m} {n} e a b d f =
     ap (λ (z : Bool). Finished z i j steps count) (e ∙ ap (λ (z : Bool). z && q) a ∙ ap (λ (z : Bool). x && z) b)
     ∙ ap (λ (z : ℕ). Finished (x && y) z j steps count) d ∙ ap (λ (z : ℕ). Finished (x && y) m z steps count) f
-
--- zeros are clear marks and an empty list
-pub ready-zeros : {v w : List ℕ} (n : ℕ) → marksRoom ≤ n → {list : List ℕ} → Formed v → Formed w → list ≡ replicate n 0 →
-    Ready v w (replicate n 0) (replicate n 0) (replicate n 0) (replicate n 0) (replicate n 0) list
-ready-zeros {v} {w} n h f g e =
-    let k : marksRoom ≤ length (replicate {A = ℕ} n 0) = rw (length-replicate {A = ℕ} n 0) h in
-    subst (λ (l : List ℕ). Ready v w (replicate n 0) (replicate n 0) (replicate n 0) (replicate n 0) (replicate n 0) l) (sym e)
-    (record {
-      first-formed = f;
-      second-formed = g;
-      roomy = record { target-room = k; stamp-room = k; from-room = k; followed-room = k; flag-room = k; list-room = k };
-      cleared = record {
-        target-clear = clear-zeros n;
-        stamp-clear = clear-zeros n;
-        from-clear = clear-zeros n;
-        followed-clear = clear-zeros n;
-        flag-clear = clear-zeros n;
-        list-clear = clear-zeros n;
-      };
-    })
 
 blank-zeros : (n x : ℕ) → slotAt (replicate n 0) x ≡ Blank
 blank-zeros n x = rw (clear-zeros n (x * 2)) refl
@@ -84,11 +61,7 @@ module _ (v b w c : List ℕ) {count len : ℕ} {ta st fr fo fl ls : List ℕ} (
   sound = pair-sound v b w c f g
 
   entered : Entered (needs (pairGraph v b w c) (raised fl)) [] (pairGraph v b w c .roots) (t .order)
-  entered = go (t .is-list)
-    where
-      go : (d : ℕ → Bool) × Flags (pairGraph v b w c) d × Entered (needs (pairGraph v b w c) d) [] (pairGraph v b w c .roots) (t .order) →
-          Entered (needs (pairGraph v b w c) (raised fl)) [] (pairGraph v b w c .roots) (t .order)
-      go (d, k, e) = subst (λ (h : ℕ → Bool). Entered (needs (pairGraph v b w c) h) [] (pairGraph v b w c .roots) (t .order)) (flags-same (pairGraph v b w c) k (t .circular)) e
+  entered = entered-of t
 
   nodes : Each (Node (pairGraph v b w c)) (t .order)
   nodes = entered-part (λ x n y m. sound .links-in x y (needs-links (pairGraph v b w c) sound (raised fl) (t .circular) x y m)) entered (λ y m. absurd (mem-nil m)) (sound .roots-in)
@@ -137,11 +110,6 @@ module _ (v b w c : List ℕ) {count len : ℕ} {ta st fr fo fl ls : List ℕ} (
         (omega arith, subst (λ (u : ℕ). Stands v w u) (let q : getD (t .order) i 0 ≡ getD ls i 0 - 1 = omega arith in q) (stands _ (nodes (getD (t .order) i 0) (at-mem (t .order) i (omega arith)))));
   }
 
-  -- what the traversal counted
-  counted : Counted (pairGraph v b w c) count
-  unfolding view
-  counted = record { ends = sym (ap (λ (s : State). s .place) (t .ends)); exact = t .exact; small = t .small }
-
   module _ {budget steps : ℕ} {before tb : List ℕ} (clear : before ≡ replicate 4096 0) (r : RunTo (needed (pairGraph v b w c) ta fl) (ruleAt v b w c) (entries len ls) 0 budget before tb steps) where
     run-is : RunTo (needs (pairGraph v b w c) (raised fl)) (ruleAt v b w c) (t .order) 0 budget (replicate 4096 0) tb steps
     run-is =
@@ -178,7 +146,7 @@ module _ (v b w c : List ℕ) {count len : ℕ} {ta st fr fo fl ls : List ℕ} (
       words = run-is .words;
       ran = ran-is;
       count = count;
-      counted = counted;
+      counted = counted-of t;
       finished = λ k.
           let a = steps-are in
           let z = t .length-is in

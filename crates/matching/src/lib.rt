@@ -199,7 +199,7 @@ fn too_small(v: &[u64], b: &[u8], w: &[u64], c: &[u8], values: usize, entries: u
 }
 
 // Whether the lent memory holds a well-formed ad.
-fn well(words: &[u64], bytes: &[u8]) -> bool
+pub fn well(words: &[u64], bytes: &[u8]) -> bool
     ensures { λ r. ⌜ (r ≡ true → Well (now (words .entry)) (now (bytes .entry))) × (r ≡ false → ¬ (Well (now (words .entry)) (now (bytes .entry)))) ⌝ }
 {
     match well_formed::check(words, bytes) {

@@ -3,7 +3,7 @@ use native.Mathlib.Omega.{arith}
 use Prim.Native.Nat.{ℕ}
 use mathlib.Core.Path.{refl, _∙_, ap}
 use lib.ListN.{replicate}
-use Rattle.matching.proofs.Assembling.{ready-zeros}
+use Rattle.matching.specs.Laws.Traversed.{ready-zeros}
 use borrow.Author.Needs.{needs}
 use Rattle.matching.proofs.match_formed.Statement.{statement}
 use Rattle.matching.proofs.match_formed.Tie as tie

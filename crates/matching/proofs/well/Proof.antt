@@ -1,7 +1,7 @@
 use denote.Ref.{now}
 use mathlib.Core.Bool.{true≢false}
 use mathlib.Core.Path.{sym}
-use Rattle.matching.proofs.Whole.{well-formed, malformed}
+use Rattle.matching.specs.Laws.Wells.{well-formed, malformed}
 use borrow.Author.Needs.{needs}
 use Rattle.matching.proofs.well.Statement.{statement}
 use Rattle.matching.proofs.well.Tie as tie

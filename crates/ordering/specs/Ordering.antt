@@ -1,0 +1,48 @@
+-- The circular references and the list of two stored ads, whatever is lent. v and b are the words and bytes of the first ad, w and c
+-- those of the second. Assumes nothing.
+use Prim.Native.Nat.{ℕ, suc, _-_}
+use mathlib.Core.Path.{_≡_}
+use mathlib.Core.Bool.{Bool, true, false, _||_}
+use mathlib.Core.List.{List, [], _++_, map}
+use lib.ListN.{length, take, drop, replicate}
+use lib.Dec.{ltb}
+use Rattle.ad.specs.Layout.{adWords, adBytesRoom}
+use Rattle.graph.specs.Members.{raised}
+use Rattle.graph.specs.Graph.{Flags, needs, Entered}
+use Rattle.links.specs.Pair.{pairGraph}
+use Rattle.matching.specs.Matching.{Counted, Well, listWords}
+use Rattle.ordering.specs.declared.Order.{Order}
+use Rattle.ordering.specs.declared.Order.the-variants.{Refused, Found}
+
+-- of two well-formed ads within their rooms: 'it ends with exactly the circular references and the list, its result carrying a count'.
+-- flags and list are what is lent of them after it, and a flag is 1 for a circular reference.
+pub record Orders (v b w c flags list : List ℕ) (count len : ℕ) : Type 0 where
+  pub flagged : Flags (pairGraph v b w c) (raised flags)
+  pub order : List ℕ
+  pub entered : Entered (needs (pairGraph v b w c) (raised flags)) [] (pairGraph v b w c .roots) order
+  pub long : len ≡ length order
+  -- 'the list's room holds the whole list .. then zeros'
+  pub listed : list ≡ map suc order ++ replicate (2048 - length order) 0
+  pub counted : Counted (pairGraph v b w c) count
+
+-- an answer that tells what such a traversal counted: 'its result carrying a count'
+pub record OrdersBy (v b w c flags list : List ℕ) (r : Order) : Type 0 where
+  pub count : ℕ
+  pub len : ℕ
+  pub answers : r ≡ Found count len
+  pub orders : Orders v b w c flags list count len
+
+-- 'lent room smaller than above': of two ads, 2,048 flags and 2,048 entries
+abbrev pub tight : (v b w c flags list : List ℕ) → Bool
+tight v b w c flags list =
+    ltb (length v) adWords || (ltb (length b) adBytesRoom || (ltb (length w) adWords || (ltb (length c) adBytesRoom || (ltb (length flags) listWords || ltb (length list) listWords))))
+
+-- THE CONTRACT OF `order_ads`, over any memory. It refuses as a match does: 'Matching checks 1, then 10 for the first ad, then 10 for the
+-- second', with 'all unchanged'; and 'Memory lent beyond these sizes is never changed.'
+pub data Ordered (v b w c flags list flags′ list′ : List ℕ) (r : Order) : Type 0 where
+  no-room : tight v b w c flags list ≡ true → r ≡ Refused 1 0 → flags′ ≡ flags → list′ ≡ list → Ordered v b w c flags list flags′ list′ r
+  first-malformed : tight v b w c flags list ≡ false → ¬ (Well v b) → r ≡ Refused 10 0 → flags′ ≡ flags → list′ ≡ list → Ordered v b w c flags list flags′ list′ r
+  second-malformed : tight v b w c flags list ≡ false → Well v b → ¬ (Well w c) → r ≡ Refused 10 0 → flags′ ≡ flags → list′ ≡ list → Ordered v b w c flags list flags′ list′ r
+  orders : tight v b w c flags list ≡ false → Well v b → Well w c → (marks entries : List ℕ) →
+      OrdersBy (take adWords v) (take adBytesRoom b) (take adWords w) (take adBytesRoom c) marks entries r →
+      flags′ ≡ marks ++ drop listWords flags → list′ ≡ entries ++ drop listWords list → Ordered v b w c flags list flags′ list′ r
