@@ -1,14 +1,14 @@
 -- What each way through the writers of definitions, and through printing, gives. Assumes nothing.
-use Prim.Native.Nat.{ℕ, zero, suc, _+_, _-_, _≤_, _<_}
+use Prim.Native.Nat.{ℕ, _+_, _-_, _≤_, _<_}
 use native.Mathlib.Nat.{add-zero, zero-add}
 use native.Mathlib.Omega.{arith}
 use mathlib.Core.Path.{_≡_, refl, sym, _∙_, ap, subst}
-use mathlib.Core.Logic.{_⊎_, inl, inr}
+use mathlib.Core.Logic.{inl, inr}
 use mathlib.Core.List.{List, [], _∷_, _++_}
-use lib.ListN.{length, set, take, drop, length-append, length-take}
-use lib.Seq.{sets, sets-eq, take-all, take-at, length-take-le}
+use lib.ListN.{length, set, take, drop, length-append}
+use lib.Seq.{sets-eq, take-all, take-at, length-take-le}
 use Rattle.text.specs.Bytes.{bytes}
-use Rattle.syntax.specs.Tree.{Expr, Definition, Ad, size}
+use Rattle.syntax.specs.Tree.{Definition, Ad, size}
 use Rattle.syntax.specs.Print.{printed, definitionText, definitionsText, printedAd}
 use Rattle.ad.specs.Stored.{offsetAt, lengthAt, rootAt, bytesAt}
 use Rattle.ad.specs.Laws.Content.{size-some}
@@ -17,19 +17,16 @@ use Rattle.writer.proofs.Laws.{puts-byte, puts-join, puts-as}
 use Rattle.well_formed.specs.WellFormed.{Holds, Answers}
 use Rattle.well_formed.specs.Laws.Runs.{bytes-are}
 use Rattle.well_formed.specs.Laws.Leaves.{Run}
-use Rattle.well_formed.specs.Laws.Definitions.{Table, Row, table-row}
-use Rattle.well_formed.specs.Laws.Whole.{holds-table, holds-long}
+use Rattle.well_formed.specs.Laws.Definitions.{Table, table-row}
+use Rattle.well_formed.specs.Laws.Prints.{length-definition}
+use Rattle.well_formed.specs.Laws.Whole.{holds-table}
 use Rattle.well_formed.specs.declared.Checked.the-variants.{WellFormed, Malformed}
 use Rattle.printer.specs.Post.{Fits, Written, RowFits, RowWritten, TableFits, TableWritten, AdWritten}
-use Rattle.printer.specs.Prints.{Roomy, Stored, Fitting, Refuses, small, malformed, long, Prints, HandsBack}
+use Rattle.printer.specs.Prints.{Roomy, Stored, Refuses, small, malformed, long, Prints, HandsBack}
 use Rattle.printer.specs.declared.Printed.{Printed}
 use Rattle.printer.specs.declared.Printed.the-variants.{Text, Refused}
 
 -- ---- a definition
-
-length-definition : (d : Definition) → length (definitionText d) ≡ length (d .name) + 3 + length (printed (d .expression))
-unfolding bytes
-length-definition d = omega (arith, length-append (d .name) (bytes " = " ++ printed (d .expression)))
 
 module _ (w b : List ℕ) (j : ℕ) where
   name-is : (d : Definition) (a : Ad) (n k : ℕ) → Table w b j n k (d ∷ a) → bytesAt b (offsetAt w j) (lengthAt w j) ≡ d .name

@@ -1,15 +1,14 @@
 -- The text of a literal or a reference, by the kind of its node. Assumes nothing.
-use Prim.Native.Nat.{ℕ, zero, suc, _+_, _-_, _≤_, _<_}
+use Prim.Native.Nat.{ℕ, _+_, _-_}
 use native.Mathlib.Omega.{arith}
-use mathlib.Core.Path.{_≡_, refl, sym, _∙_, ap, subst}
+use mathlib.Core.Path.{_≡_, refl, sym, _∙_, ap}
 use mathlib.Core.Bool.{Bool, true, false, _&&_}
-use mathlib.Core.List.{List, [], _∷_, _++_}
-use lib.ListN.{length, length-append}
-use lib.Dec.{leb, eqb}
-use borrow.Author.Tests.{eqb-true, eqb-false, ne-eqb}
+use mathlib.Core.List.{List, _++_}
+use lib.ListN.{length}
+use lib.Dec.{eqb}
+use borrow.Author.Tests.{eqb-true, ne-eqb}
 use Rattle.text.specs.Bytes.{bytes}
 use Rattle.syntax.specs.Tree.{Literal, undefined, error, boolean, integer, real, string, own, other, Expr, literal, reference}
-use Rattle.syntax.specs.Token.{pick}
 use Rattle.syntax.specs.Print.{decimal, literalText, referenceText, printed}
 use Rattle.lexemes.specs.Lexeme.{isName, isString, isReal}
 use Rattle.ad.specs.Stored.{kindAt, operandAt, bytesAt}
@@ -35,9 +34,6 @@ module _ (w b : List ℕ) (i k x y : ℕ) (ek : k ≡ kindAt w i) (ex : x ≡ op
   leaf-at v o e g h = (λ m. leafOf b o ((sym g ∙ ek) m) (ex m) (ey m) (operandAt w i 2)) ∙ h
 
   module _ (e : Expr) (o : ℕ) (h : leafAt w b i o ≡ got e) where
-    Z : Bool
-    Z = eqb (operandAt w i 2) 0
-
     plain : (v : ℕ) (t : Bool) (l : Literal) → k ≡ v → (leafOf b o v x y (operandAt w i 2) ≡ got e → test (eqb (operandAt w i 2) 0) (λ _. test t (λ _. got (literal l))) ≡ got e) → e ≡ literal l
     plain v t l g f =
         let p = inv-test (eqb (operandAt w i 2) 0) (λ _. test t (λ _. got (literal l))) e (f (leaf-at v o e g h)) in

@@ -1,19 +1,17 @@
 -- What each way through the writers of trees gives. Assumes nothing.
-use Prim.Native.Nat.{ℕ, zero, suc, _+_, _-_, _≤_, _<_}
+use Prim.Native.Nat.{ℕ, _+_, _-_, _≤_, _<_}
 use native.Mathlib.Omega.{arith}
 use mathlib.Core.Path.{_≡_, refl, sym, _∙_, ap, subst}
-use mathlib.Core.Bool.{Bool, true, false, cond}
+use mathlib.Core.Bool.{Bool, true, false}
 use mathlib.Core.List.{List, [], _∷_, _++_, append-assoc}
 use lib.ListN.{length, set, length-append}
-use lib.Dec.{ltb, eqb}
+use lib.Dec.{eqb}
 use borrow.Author.Tests.{lt-ltb, le-ltb, eqb-true, eqb-false, ne-eqb}
 use Rattle.text.specs.Bytes.{bytes}
 use Rattle.syntax.specs.Tree.{Expr, literal, reference, unary, binary, conditional, size}
 use Rattle.syntax.specs.Grammar.{bindsOf}
-use Rattle.syntax.specs.Print.{unaryText, binaryText, binds, wrap, printed}
-use Rattle.syntax.specs.declared.Binary.{Binary}
-use Rattle.syntax.specs.declared.Unary.{Unary}
-use Rattle.ad.specs.Layout.{unaryKind, binaryKind, exprBytes}
+use Rattle.syntax.specs.Print.{unaryText, binaryText, binds, printed}
+use Rattle.ad.specs.Layout.{exprBytes}
 use Rattle.ad.specs.Stored.{kindAt, operandAt, unaryOf, binaryOf}
 use Rattle.ad.specs.Laws.Content.{unary-range, binary-found, binary-high}
 use Rattle.writer.specs.Put.{Puts, Near}

@@ -1,6 +1,6 @@
 -- What `print` answers and leaves, whatever memory and output it is lent. w and b are the words and bytes of an ad, o is the output.
 -- Assumes nothing.
-use Prim.Native.Nat.{ℕ, _≤_, _<_}
+use Prim.Native.Nat.{ℕ, _≤_}
 use mathlib.Core.Path.{_≡_}
 use mathlib.Core.Logic.{_⊎_}
 use mathlib.Core.List.{List, [], _++_}

@@ -1,18 +1,18 @@
 -- What each way through the check gives. Assumes nothing.
-use Prim.Native.Nat.{ℕ, zero, suc, _+_, _-_, _*_, _≤_, _<_}
+use Prim.Native.Nat.{ℕ, zero, suc, _+_, _-_, _≤_, _<_}
 use native.Mathlib.Omega.{arith}
 use mathlib.Core.Path.{_≡_, refl, sym, _∙_, ap, subst}
-use mathlib.Core.Bool.{Bool, true, false, cond, not, _&&_}
-use mathlib.Core.List.{List, [], _∷_, _++_}
-use lib.ListN.{length, take, replicate, length-append, length-take, length-replicate}
+use mathlib.Core.Bool.{true, false, cond, _&&_}
+use mathlib.Core.List.{List, [], _∷_}
+use lib.ListN.{length, length-take}
 use lib.Dec.{eqb}
-use borrow.Author.Tests.{eq-eqb, ne-eqb}
-use Rattle.syntax.specs.Tree.{Definition, Ad, nodes}
+use borrow.Author.Tests.{ne-eqb}
+use Rattle.syntax.specs.Tree.{Ad, nodes}
 use Rattle.syntax.specs.Print.{definitionsText, printedAd}
-use Rattle.ad.specs.Layout.{adNodes, adDefinitions, adBytes, storedWords, storedBytes}
+use Rattle.ad.specs.Layout.{adBytes}
 use Rattle.ad.specs.Stored.{offsetAt, lengthAt, bytesAt, definedIn}
-use Rattle.well_formed.specs.Decode.{FoundAd, all, none, adAt, rowsLength, RowsRoom, RowsOk, newFrom, zeroBehind}
-use Rattle.well_formed.specs.WellFormed.{Holds, AnswersRoom, Answers}
+use Rattle.well_formed.specs.Decode.{rowsLength, RowsOk, newFrom, zeroBehind}
+use Rattle.well_formed.specs.WellFormed.{AnswersRoom, Answers}
 use Rattle.well_formed.specs.Laws.Prints.{length-ad-print}
 use Rattle.well_formed.specs.Laws.Definitions.{Table, AllAd, ad-sound, ad-few}
 use Rattle.well_formed.specs.Laws.Whole.{holds-found, found-holds, holds-long}
@@ -45,9 +45,6 @@ module _ (w b : List ℕ) (hw : length w ≡ 4864) (hb : length b ≡ 16384) whe
   room-bad h a x = let z : _≡_ {A = ℕ} 0 1 = cc (holds-found w b hw hb a x .0, h) in omega arith
 
   module _ (d n k t : ℕ) (h : RowsOk w b 0 0 0 (Ads d n k t)) where
-    a : Ad
-    a = h .0
-
     pub rows-inside : (d ≤ 256) × (n ≤ 1024) × (k ≤ 16384)
     rows-inside =
         let y : Table w b 0 0 0 (h .0) = subst (AllAd (Table w b 0 0 0)) (h .1) (ad-sound 256 w b 0 0 0 (omega arith) (omega arith) (omega arith)) in

@@ -1,26 +1,24 @@
 -- What each way through the definitions gives. Assumes nothing.
-use Prim.Native.Nat.{ℕ, zero, suc, _+_, _-_, _*_, _≤_, _<_}
+use Prim.Native.Nat.{ℕ, suc, _+_, _-_, _≤_, _<_}
 use native.Mathlib.Nat.{add-zero}
 use native.Mathlib.Omega.{arith}
-use mathlib.Core.Path.{_≡_, refl, sym, _∙_, ap, subst}
-use mathlib.Core.Bool.{Bool, true, false, cond, not, _&&_}
+use mathlib.Core.Path.{_≡_, refl, sym, subst}
+use mathlib.Core.Bool.{true, false, not, _&&_}
 use mathlib.Core.List.{List, [], _∷_, _++_}
 use lib.ListN.{length, getD, length-append}
-use lib.Dec.{ltb, leb, eqb}
-use borrow.Author.Tests.{ltb-true, leb-true, eqb-true, eq-eqb, ne-eqb, le-leb, lt-leb}
-use Rattle.syntax.specs.Bounds.{maxNodes, maxLevel}
+use lib.Dec.{ltb, leb}
+use borrow.Author.Tests.{ltb-true, leb-true, ne-eqb, le-leb, lt-leb}
+use Rattle.syntax.specs.Bounds.{maxNodes}
 use Rattle.text.specs.Bytes.{startsName, continuesName}
-use Rattle.syntax.specs.Tree.{Expr, Definition, Ad, size, nodes}
+use Rattle.syntax.specs.Tree.{Definition, Ad, size, nodes}
 use Rattle.syntax.specs.Token.{reserved}
-use Rattle.syntax.specs.Print.{printed, levelOf}
+use Rattle.syntax.specs.Print.{levelOf}
 use Rattle.lexemes.specs.Lexeme.{every, isOneOf, isName}
 use Rattle.ad.specs.Layout.{exprBytes, adBytes}
 use Rattle.ad.specs.Stored.{offsetAt, lengthAt, rootAt, bytesAt}
 use Rattle.ad.specs.Laws.Content.{size-some}
-use Rattle.well_formed.specs.Decode.{Found, got, bad, treeAt, WalkOk, Room, FoundAd, all, none, withTree, testAd, chainAd, standsAt, entryFits, adAt, rowsLength, SameAd, RowsRoom, RowsOk, rowBefore, RowsSmall}
-use Rattle.well_formed.specs.WellFormed.{areWritable}
+use Rattle.well_formed.specs.Decode.{WalkOk, Room, all, none, standsAt, entryFits, adAt, rowsLength, SameAd, RowsRoom, RowsOk, rowBefore, RowsSmall}
 use Rattle.well_formed.specs.Laws.Shapes.{and-left, and-right}
-use Rattle.well_formed.specs.Laws.Leaves.{Run}
 use Rattle.well_formed.specs.Laws.Prints.{rows-one, rows-short}
 use Rattle.well_formed.specs.Laws.Definitions.{Table, AllAd, ad-sound}
 use Rattle.well_formed.specs.declared.Rows.{Rows}
@@ -28,7 +26,7 @@ use Rattle.well_formed.specs.declared.Rows.the-variants.{Ads, Wrong}
 use Rattle.well_formed.specs.declared.Walk.{Walk}
 use Rattle.well_formed.specs.declared.Walk.the-variants.{Tree, Bad}
 use Rattle.well_formed.proofs.Tests.{stands-room, stands-long}
-use Rattle.well_formed.proofs.Ways.{inside, found-run, walk-small}
+use Rattle.well_formed.proofs.Ways.{inside, found-run}
 
 few-named : (a : Ad) → length a ≤ nodes a
 unfolding nodes
@@ -73,12 +71,6 @@ module _ (w b : List ℕ) (j n o : ℕ) where
       rows-unfit e = answers Wrong (rw (ne-eqb (lengthAt w j) 0 some, e) refl)
 
       module _ (fits : entryFits w b j n o ≡ true) where
-        L : ℕ
-        L = lengthAt w j
-
-        l : List ℕ
-        l = bytesAt b o (lengthAt w j)
-
         left-fits : (standsAt b o (offsetAt w j) (lengthAt w j) && isName (bytesAt b o (lengthAt w j))) ≡ true
         left-fits = and-left (standsAt b o (offsetAt w j) (lengthAt w j) && isName (bytesAt b o (lengthAt w j))) (leb n (rootAt w j) && ltb (rootAt w j) maxNodes) fits
 

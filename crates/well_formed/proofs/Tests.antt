@@ -1,21 +1,16 @@
 -- What each way through the tests and the leaves gives. Assumes nothing.
-use Prim.Native.Nat.{ℕ, zero, suc, _+_, _-_, _*_, _^_, _≤_, _<_}
-use Prim.Native.Char.{code}
+use Prim.Native.Nat.{ℕ, zero, suc, _+_, _-_, _^_, _≤_}
 use native.Mathlib.Nat.{add-zero}
 use native.Mathlib.Omega.{arith}
 use mathlib.Core.Path.{_≡_, refl, sym, _∙_, ap, subst}
-use mathlib.Core.Bool.{Bool, true, false, cond, _&&_}
-use mathlib.Core.List.{List, [], _∷_, _++_}
+use mathlib.Core.Bool.{Bool, true, false, _&&_}
+use mathlib.Core.List.{List, []}
 use lib.ListN.{length, take, drop, length-take, length-drop}
 use lib.Seq.{take-all}
 use lib.Dec.{ltb, leb, eqb}
-use borrow.Author.Tests.{ltb-true, leb-true, eqb-true, eq-eqb, ne-eqb}
+use borrow.Author.Tests.{ltb-true, leb-true, eqb-true, ne-eqb}
 use Rattle.text.specs.Bytes.{bytes}
-use Rattle.syntax.specs.Tree.{Literal, undefined, error, boolean, integer, real, string, Scope, own, other, Expr, literal, reference}
-use Rattle.syntax.specs.Token.{pick}
-use Rattle.syntax.specs.Grammar.{bindsOf}
-use Rattle.syntax.specs.declared.Binary.{Binary}
-use Rattle.syntax.specs.declared.Binary.the-variants.{Or, And, Equal, NotEqual, Is, Isnt, Less, LessOrEqual, Greater, GreaterOrEqual, Add, Subtract, Multiply, Divide, Remainder}
+use Rattle.syntax.specs.Tree.{Literal, undefined, error, boolean, integer, real, string, own, other, literal, reference}
 use Rattle.syntax.specs.Print.{decimal, literalText, referenceText, binds, printed, levelOf}
 use Rattle.lexemes.specs.Lexeme.{every, inString, isName, isString, isReal}
 use Rattle.ad.specs.Layout.{literalBytes, exprBytes}
@@ -120,28 +115,6 @@ module _ (w b : List ℕ) (i o x y : ℕ) (ex : x ≡ operandAt w i 0) (ey : y �
     pub leaf-none : (k ≡ 1 → ⊥) → (k ≡ 2 → ⊥) → (k ≡ 3 → ⊥) → (k ≡ 4 → ⊥) → (k ≡ 5 → ⊥) → (k ≡ 6 → ⊥) → (k ≡ 7 → ⊥) → (k ≡ 8 → ⊥) → Same o (leafAt w b i o) Bad
     unfolding leafOf
     leaf-none n₁ n₂ n₃ n₄ n₅ n₆ n₇ n₈ = rw (← ez, e₀, ← ek, ne-eqb k 1 n₁, ne-eqb k 2 n₂, ne-eqb k 3 n₃, ne-eqb k 4 n₄, ne-eqb k 5 n₅, ne-eqb k 6 n₆, ne-eqb k 7 n₇, ne-eqb k 8 n₈) refl
-
--- ---- operators
-
-pub ands : {a a′ b b′ : Bool} → a ≡ a′ → b ≡ b′ → (a && b) ≡ (a′ && b′)
-ands p q = λ i. p i && q i
-
-pub binds-small : (j : Binary) → bindsOf j ≤ 6
-binds-small Or = omega arith
-binds-small And = omega arith
-binds-small Equal = omega arith
-binds-small NotEqual = omega arith
-binds-small Is = omega arith
-binds-small Isnt = omega arith
-binds-small Less = omega arith
-binds-small LessOrEqual = omega arith
-binds-small Greater = omega arith
-binds-small GreaterOrEqual = omega arith
-binds-small Add = omega arith
-binds-small Subtract = omega arith
-binds-small Multiply = omega arith
-binds-small Divide = omega arith
-binds-small Remainder = omega arith
 
 -- the rest of some numbers, whole
 pub rest-all : (l : List ℕ) (k : ℕ) → take (length l - k) (drop k l) ≡ drop k l

@@ -1,16 +1,14 @@
 -- What each way through the walk gives. Assumes nothing.
-use Prim.Native.Nat.{ℕ, zero, suc, _+_, _-_, _*_, _≤_, _<_, max}
+use Prim.Native.Nat.{ℕ, zero, suc, _+_, _-_, _≤_, _<_}
 use native.Mathlib.Omega.{arith}
-use mathlib.Core.Path.{_≡_, refl, sym, _∙_, ap, subst}
-use mathlib.Core.Bool.{Bool, true, false, cond, _&&_}
+use mathlib.Core.Path.{_≡_, refl, sym, subst}
 use mathlib.Core.List.{List, [], _∷_, _++_}
 use lib.ListN.{length, length-append}
-use Rattle.syntax.specs.Tree.{Expr, unary, binary, conditional, size}
+use Rattle.syntax.specs.Tree.{Expr, unary, binary, conditional}
 use Rattle.syntax.specs.Print.{binds, printed, levelOf}
 use Rattle.ad.specs.Layout.{exprBytes}
 use Rattle.ad.specs.Stored.{kindAt, operandAt, unaryOf, binaryOf}
-use Rattle.well_formed.specs.Decode.{Found, got, bad, chain, shapeAt, onShape, leafAt, treeAt, Same, WalkOk, Room, unaryWalk, binaryWalk, conditionalWalk}
-use Rattle.well_formed.specs.WellFormed.{isWritable}
+use Rattle.well_formed.specs.Decode.{got, bad, shapeAt, leafAt, treeAt, Same, WalkOk, Room, unaryWalk, binaryWalk, conditionalWalk}
 use Rattle.well_formed.specs.Laws.Runs.{Stands, stands-inside}
 use Rattle.well_formed.specs.Laws.Shapes.{Facts, shape-facts}
 use Rattle.well_formed.specs.Laws.Leaves.{All, Run}

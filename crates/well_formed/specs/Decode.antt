@@ -1,12 +1,12 @@
 -- The tree that stands in some memory, or none: what the check goes by. w are the words and b the bytes of an ad. Assumes nothing.
 use Prim.Native.Nat.{ℕ, zero, suc, _+_, _-_, _*_, _≤_, _<_, max}
 use mathlib.Core.Path.{_≡_}
-use mathlib.Core.Bool.{Bool, true, false, cond, not, _&&_}
+use mathlib.Core.Bool.{Bool, true, cond, not, _&&_}
 use mathlib.Core.List.{List, [], _∷_}
 use lib.ListN.{length, take, drop}
 use lib.Dec.{ltb, leb, eqb}
 use Rattle.syntax.specs.Bounds.{maxInteger, maxNodes, maxLevel}
-use Rattle.syntax.specs.Tree.{Literal, undefined, error, boolean, integer, real, string, own, other, Expr, literal, reference, unary, binary, conditional, Definition, Ad, nodes}
+use Rattle.syntax.specs.Tree.{undefined, error, boolean, integer, real, string, own, other, Expr, literal, reference, unary, binary, conditional, Ad, nodes}
 use Rattle.syntax.specs.Token.{pick}
 use Rattle.syntax.specs.Grammar.{bindsOf}
 use Rattle.syntax.specs.Print.{binaryText, binds, printed, definitionText, wrapLevel, levelOf}

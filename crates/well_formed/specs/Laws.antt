@@ -6,4 +6,5 @@ pub mod Trees
 pub mod Operands
 pub mod Prints
 pub mod Definitions
+pub mod Named
 pub mod Whole

@@ -6,7 +6,7 @@ use mathlib.Core.Bool.{Bool, true, _&&_}
 use mathlib.Core.List.{List, [], _∷_}
 use lib.ListN.{length, take}
 use Rattle.syntax.specs.Bounds.{maxLevel}
-use Rattle.syntax.specs.Tree.{Expr, literal, reference, unary, binary, conditional, Definition, Ad, nodes}
+use Rattle.syntax.specs.Tree.{Expr, literal, reference, unary, binary, conditional, Ad, nodes}
 use Rattle.syntax.specs.Grammar.{Within}
 use Rattle.syntax.specs.Print.{printedAd, adLevel}
 use Rattle.lexemes.specs.Lexeme.{isName, isLiteral}

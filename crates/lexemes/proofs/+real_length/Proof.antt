@@ -1,12 +1,9 @@
-use mathlib.Core.Path.{_≡_, refl, sym, _∙_, ap}
-use Prim.Native.Nat.{ℕ, zero, suc, _+_, _-_, _*_, _≤_, _<_}
-use Prim.Native.Nat.{_/_, _%_}
+use Prim.Native.Nat.{ℕ, _+_, _-_, _<_}
 use Prim.Native.Char.{code}
 use mathlib.Core.List.{[], _∷_}
-use lib.ListN.{length, length-append}
-use Rattle.syntax.specs.Tree.{real}
-use Rattle.syntax.specs.Print.{decimal, literalText}
-use Rattle.lexemes.specs.Laws.Digits.{real-none, real-more}
+use lib.ListN.{length-append}
+use Rattle.syntax.specs.Print.{decimal}
+use Rattle.lexemes.specs.Laws.Digits.{real-none}
 use Rattle.lexemes.proofs.Laws.{real-step}
 use borrow.Author.Needs.{needs}
 use native.Mathlib.Omega.{arith}

@@ -1,5 +1,4 @@
 use Rattle.lexemes.specs.Lexeme.{inString}
-use native.Mathlib.Omega.{arith}
 use borrow.Author.Needs.{needs}
 use Rattle.lexemes.proofs.in_string.Statement.{statement}
 use Rattle.lexemes.proofs.in_string.Tie as tie

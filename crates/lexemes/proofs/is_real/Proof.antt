@@ -1,5 +1,4 @@
 use Rattle.lexemes.specs.Lexeme.{isReal}
-use native.Mathlib.Omega.{arith}
 use borrow.Author.Needs.{needs}
 use Rattle.lexemes.proofs.is_real.Statement.{statement}
 use Rattle.lexemes.proofs.is_real.Tie as tie

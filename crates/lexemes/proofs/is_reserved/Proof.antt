@@ -1,8 +1,7 @@
-use mathlib.Core.Path.{_≡_, refl, sym, _∙_, ap}
-use Prim.Native.Nat.{ℕ, zero, suc, _+_, _-_, _*_, _≤_, _<_}
+use mathlib.Core.Path.{sym, _∙_}
+use Prim.Native.Nat.{_-_}
 use Rattle.lexemes.proofs.Laws.{reserved-words, ors}
 use Rattle.text.specs.Bytes.{bytes}
-use native.Mathlib.Omega.{arith}
 use borrow.Author.Needs.{needs}
 use Rattle.lexemes.proofs.is_reserved.Statement.{statement}
 use Rattle.lexemes.proofs.is_reserved.Tie as tie

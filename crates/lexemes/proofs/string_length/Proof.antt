@@ -1,7 +1,7 @@
-use mathlib.Core.Path.{_≡_, refl, sym, _∙_, ap}
-use Prim.Native.Nat.{ℕ, zero, suc, _+_, _-_, _*_, _≤_, _<_}
+use mathlib.Core.Path.{_≡_}
+use Prim.Native.Nat.{_+_, _-_, _*_, _≤_}
 use lib.ListN.{length, drop, length-append}
-use Rattle.syntax.specs.Print.{escaped, escapedAll, literalText}
+use Rattle.syntax.specs.Print.{escapedAll, literalText}
 use Rattle.lexemes.proofs.Laws.{escaped-more, escaped-end}
 use borrow.Author.Needs.{needs}
 use native.Mathlib.Omega.{arith}

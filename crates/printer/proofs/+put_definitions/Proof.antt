@@ -1,10 +1,5 @@
-use mathlib.Core.Path.{_≡_, refl, sym, _∙_, ap, subst}
-use mathlib.Core.List.{List, [], _∷_, _++_}
-use Prim.Native.Nat.{ℕ, zero, suc, _+_, _-_, _*_, _≤_, _<_}
-use lib.ListN.{length, length-append}
-use Rattle.syntax.specs.Print.{literalText, printed}
+use Prim.Native.Nat.{ℕ, _+_, _-_, _<_}
 use Rattle.text.specs.Bytes.{bytes}
-use Rattle.writer.proofs.Laws.{puts-as, puts-join}
 use Rattle.printer.proofs.Ads.{none-written, row-fits, one-row, semicolon-near, rest-fits, more-rows}
 use borrow.Author.Needs.{needs}
 use native.Mathlib.Omega.{arith}

@@ -1,12 +1,11 @@
-use mathlib.Core.Path.{_≡_, refl, sym, _∙_, ap, subst}
-use mathlib.Core.List.{List, [], _∷_, _++_}
-use Prim.Native.Nat.{ℕ, zero, suc, _+_, _-_, _*_, _≤_, _<_}
-use lib.ListN.{length, length-append}
-use Rattle.syntax.specs.Print.{literalText, printed}
+use mathlib.Core.Path.{refl, sym, _∙_, ap}
+use mathlib.Core.List.{[], _∷_, _++_}
+use Prim.Native.Nat.{ℕ, _+_, _-_, _*_, _<_}
+use lib.ListN.{length}
 use Rattle.text.specs.Bytes.{bytes}
-use Rattle.writer.proofs.Laws.{puts-as, puts-join}
+use Rattle.writer.proofs.Laws.{puts-as}
 use Rattle.printer.proofs.Trees.{fits-as, tree-fits-as, written-as, tree-written-as, bare-fits, bare-written, closed-near, closed-fits, closed-behind, closed-written, leaf-fits, leaf-written, one-near, one-falls, one-fits, one-written, two-falls, two-fits, two-near, two-second, two-written, three-falls, three-fits, three-near, three-second, three-near-2, three-third, three-written, above}
-use Rattle.well_formed.proofs.Tests.{binds-small}
+use Rattle.syntax.specs.Laws.Codes.{binds-low}
 use Rattle.syntax.specs.Grammar.{bindsOf}
 use Rattle.syntax.specs.Print.{unaryText, binaryText}
 use Rattle.syntax.specs.declared.Binary.{Binary}
@@ -142,7 +141,7 @@ put-tree-put-binary-requires : (t : ℕ) → put-tree-lts.Need-put-binary-requir
 put-tree-put-binary-requires t c κs = rw (c .before .before .before .before .before .before .binary-of .ensures ∙ ap binaryOf (c .before .before .before .before .before .before .before .before .before .before .before .before .kind .ensures)) (two-near (c .before .before .before .before .before .before .before .before .before .before .before .before .before .before .before .before .args .words .now) (c .before .before .before .before .before .before .before .before .before .before .before .before .before .before .before .before .args .bytes .now) (c .before .before .before .before .before .before .before .before .before .before .before .before .before .before .before .before .args .i) (c .before .before .before .before .before .before .before .before .before .before .before .before .before .before .before .before .args .at) (c .before .before .before .before .before .before .before .before .before .before .before .before .before .before .before .before .args .out .now) (above (c .before .before .before .before .before .before .before .before .before .before .before .before .before .before .before .before .args .words .now) (c .before .before .before .before .before .before .before .before .before .before .before .before .before .before .before .before .args .i) (rw (c .before .before .before .before .before .before .before .before .before .before .before .before .kind .ensures) at (c .before .before .before .before .before .before .before .before .before .if2 .left)) (λ z. c .before .before .before .before .before .before .before .if3 .left (c .before .before .before .before .before .before .before .before .before .before .before .before .kind .ensures ∙ z))) (c .before .before .before .before .before .before .before .before .before .before .before .before .before .before .before .before .pre .1) _ _ (written-as (c .before .before .before .before .before .before .before .before .before .before .before .before .before .before .before .before .args .words .now) (c .before .before .before .before .before .before .before .before .before .before .before .before .before .before .before .before .args .bytes .now) _ _ (c .before .before .before .before .before .binds .result) (bindsOf (binaryOf (kindAt (c .before .before .before .before .before .before .before .before .before .before .before .before .before .before .before .before .args .words .now) (c .before .before .before .before .before .before .before .before .before .before .before .before .before .before .before .before .args .i)))) (c .before .before .before .before .before .before .before .before .before .before .operand .result) (operandAt (c .before .before .before .before .before .before .before .before .before .before .before .before .before .before .before .before .args .words .now) (c .before .before .before .before .before .before .before .before .before .before .before .before .before .before .before .before .args .i) 0) _ _ (c .before .before .before .before .before .binds .ensures ∙ ap bindsOf (c .before .before .before .before .before .before .binary-of .ensures ∙ ap binaryOf (c .before .before .before .before .before .before .before .before .before .before .before .before .kind .ensures))) (c .before .before .before .before .before .before .before .before .before .before .operand .ensures) (c .before .before .before .put-operand3 .ensures)))
 
 put-tree-add-put-operand : (t : ℕ) → put-tree-lts.Need-add-put-operand (put-tree-claims t) (put-tree-at t) put-tree.Post
-put-tree-add-put-operand t c = let h = binds-small (c .before .before .before .before .before .before .before .before .before .binary-of .result) in omega (arith, c .before .before .before .before .before .before .before .before .binds .ensures)
+put-tree-add-put-operand t c = let h = binds-low (c .before .before .before .before .before .before .before .before .before .binary-of .result) in omega (arith, c .before .before .before .before .before .before .before .before .binds .ensures)
 
 put-tree-put-operand-requires-4 : (t : ℕ) → put-tree-lts.Need-put-operand-requires-4 (put-tree-claims t) (put-tree-at t) put-tree.Post
 put-tree-put-operand-requires-4 t c κs = (let h = two-falls (c .before .before .before .before .before .before .before .before .before .before .before .before .before .before .before .before .before .before .before .before .args .words .now) (c .before .before .before .before .before .before .before .before .before .before .before .before .before .before .before .before .before .before .before .before .args .bytes .now) (c .before .before .before .before .before .before .before .before .before .before .before .before .before .before .before .before .before .before .before .before .args .i) (c .before .before .before .before .before .before .before .before .before .before .before .before .before .before .before .before .before .before .before .before .args .at) (c .before .before .before .before .before .before .before .before .before .before .before .before .before .before .before .before .before .before .before .before .args .out .now) (above (c .before .before .before .before .before .before .before .before .before .before .before .before .before .before .before .before .before .before .before .before .args .words .now) (c .before .before .before .before .before .before .before .before .before .before .before .before .before .before .before .before .before .before .before .before .args .i) (rw (c .before .before .before .before .before .before .before .before .before .before .before .before .before .before .before .before .kind .ensures) at (c .before .before .before .before .before .before .before .before .before .before .before .before .before .if2 .left)) (λ z. c .before .before .before .before .before .before .before .before .before .before .before .if3 .left (c .before .before .before .before .before .before .before .before .before .before .before .before .before .before .before .before .kind .ensures ∙ z))) (c .before .before .before .before .before .before .before .before .before .before .before .before .before .before .before .before .before .before .before .before .pre .1) in omega (arith, c .before .before .before .before .before .before .before .before .before .before .before .before .operand2 .ensures, c .before .before .before .before .before .before .before .before .before .before .before .before .before .before .before .before .before .before .before .before .pre .0), fits-as (c .before .before .before .before .before .before .before .before .before .before .before .before .before .before .before .before .before .before .before .before .args .words .now) (c .before .before .before .before .before .before .before .before .before .before .before .before .before .before .before .before .before .before .before .before .args .bytes .now) (c .before .before .before .before .before .before .before .before .before .binds .result + 1) (bindsOf (binaryOf (kindAt (c .before .before .before .before .before .before .before .before .before .before .before .before .before .before .before .before .before .before .before .before .args .words .now) (c .before .before .before .before .before .before .before .before .before .before .before .before .before .before .before .before .before .before .before .before .args .i))) + 1) (c .before .before .before .before .before .before .before .before .before .before .before .before .operand2 .result) (operandAt (c .before .before .before .before .before .before .before .before .before .before .before .before .before .before .before .before .before .before .before .before .args .words .now) (c .before .before .before .before .before .before .before .before .before .before .before .before .before .before .before .before .before .before .before .before .args .i) 1) (c .before .before .before .put-binary .result) (ap (λ (u : ℕ). u + 1) (c .before .before .before .before .before .before .before .before .before .binds .ensures ∙ ap bindsOf (c .before .before .before .before .before .before .before .before .before .before .binary-of .ensures ∙ ap binaryOf (c .before .before .before .before .before .before .before .before .before .before .before .before .before .before .before .before .kind .ensures)))) (c .before .before .before .before .before .before .before .before .before .before .before .before .operand2 .ensures) (two-second (c .before .before .before .before .before .before .before .before .before .before .before .before .before .before .before .before .before .before .before .before .args .words .now) (c .before .before .before .before .before .before .before .before .before .before .before .before .before .before .before .before .before .before .before .before .args .bytes .now) (c .before .before .before .before .before .before .before .before .before .before .before .before .before .before .before .before .before .before .before .before .args .i) (c .before .before .before .before .before .before .before .before .before .before .before .before .before .before .before .before .before .before .before .before .args .at) (c .before .before .before .before .before .before .before .before .before .before .before .before .before .before .before .before .before .before .before .before .args .out .now) (above (c .before .before .before .before .before .before .before .before .before .before .before .before .before .before .before .before .before .before .before .before .args .words .now) (c .before .before .before .before .before .before .before .before .before .before .before .before .before .before .before .before .before .before .before .before .args .i) (rw (c .before .before .before .before .before .before .before .before .before .before .before .before .before .before .before .before .kind .ensures) at (c .before .before .before .before .before .before .before .before .before .before .before .before .before .if2 .left)) (λ z. c .before .before .before .before .before .before .before .before .before .before .before .if3 .left (c .before .before .before .before .before .before .before .before .before .before .before .before .before .before .before .before .kind .ensures ∙ z))) (c .before .before .before .before .before .before .before .before .before .before .before .before .before .before .before .before .before .before .before .before .pre .1) _ _ (written-as (c .before .before .before .before .before .before .before .before .before .before .before .before .before .before .before .before .before .before .before .before .args .words .now) (c .before .before .before .before .before .before .before .before .before .before .before .before .before .before .before .before .before .before .before .before .args .bytes .now) _ _ (c .before .before .before .before .before .before .before .before .before .binds .result) (bindsOf (binaryOf (kindAt (c .before .before .before .before .before .before .before .before .before .before .before .before .before .before .before .before .before .before .before .before .args .words .now) (c .before .before .before .before .before .before .before .before .before .before .before .before .before .before .before .before .before .before .before .before .args .i)))) (c .before .before .before .before .before .before .before .before .before .before .before .before .before .before .operand .result) (operandAt (c .before .before .before .before .before .before .before .before .before .before .before .before .before .before .before .before .before .before .before .before .args .words .now) (c .before .before .before .before .before .before .before .before .before .before .before .before .before .before .before .before .before .before .before .before .args .i) 0) _ _ (c .before .before .before .before .before .before .before .before .before .binds .ensures ∙ ap bindsOf (c .before .before .before .before .before .before .before .before .before .before .binary-of .ensures ∙ ap binaryOf (c .before .before .before .before .before .before .before .before .before .before .before .before .before .before .before .before .kind .ensures))) (c .before .before .before .before .before .before .before .before .before .before .before .before .before .before .operand .ensures) (c .before .before .before .before .before .before .before .put-operand3 .ensures)) (c .before .before .before .put-binary .result) (c .before .before .before .put-binary .ensures .behind ∙ ap (λ (u : Binary). c .before .before .before .before .before .before .before .put-operand3 .result + length (32 ∷ (binaryText u ++ 32 ∷ []))) (c .before .before .before .before .before .before .before .before .before .before .binary-of .ensures ∙ ap binaryOf (c .before .before .before .before .before .before .before .before .before .before .before .before .before .before .before .before .kind .ensures)))))

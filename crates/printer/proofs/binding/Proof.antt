@@ -1,12 +1,8 @@
-use mathlib.Core.Path.{_≡_, refl, sym, _∙_, ap, subst}
-use mathlib.Core.List.{List, [], _∷_, _++_}
-use Prim.Native.Nat.{ℕ, zero, suc, _+_, _-_, _*_, _≤_, _<_}
-use lib.ListN.{length, length-append}
+use mathlib.Core.Path.{_∙_, ap}
+use Prim.Native.Nat.{_-_}
 use Rattle.printer.proofs.Trees.{binds-leaf, binds-unary, binds-conditional, binds-binary}
 use Rattle.syntax.specs.Grammar.{bindsOf}
-use Rattle.syntax.specs.declared.Binary.{Binary}
 use Rattle.printer.specs.Post.{bindsKind}
-use native.Mathlib.Omega.{arith}
 use borrow.Author.Needs.{needs}
 use Rattle.printer.proofs.binding.Statement.{statement}
 use Rattle.printer.proofs.binding.Tie as tie

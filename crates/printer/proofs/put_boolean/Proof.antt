@@ -1,12 +1,7 @@
-use mathlib.Core.Path.{_≡_, refl, sym, _∙_, ap, subst}
-use mathlib.Core.List.{List, [], _∷_, _++_}
-use Prim.Native.Nat.{ℕ, zero, suc, _+_, _-_, _*_, _≤_, _<_}
-use lib.ListN.{length, length-append}
-use Rattle.syntax.specs.Print.{literalText, printed}
+use Prim.Native.Nat.{_-_}
+use Rattle.syntax.specs.Print.{literalText}
 use Rattle.text.specs.Bytes.{bytes}
-use Rattle.writer.proofs.Laws.{puts-as, puts-join}
 use borrow.Author.Tests.{ne-eqb}
-use Rattle.syntax.specs.Tree.{boolean}
 use native.Mathlib.Omega.{arith}
 use borrow.Author.Needs.{needs}
 use Rattle.printer.proofs.put_boolean.Statement.{statement}

@@ -1,14 +1,12 @@
-use mathlib.Core.Path.{_≡_, refl, sym, _∙_, ap, subst}
-use mathlib.Core.List.{List, [], _∷_, _++_}
-use Prim.Native.Nat.{ℕ, zero, suc, _+_, _-_, _*_, _≤_, _<_}
-use lib.ListN.{length, length-append}
-use Rattle.syntax.specs.Print.{literalText, printed}
+use mathlib.Core.Path.{_∙_, ap}
+use mathlib.Core.List.{List}
+use Prim.Native.Nat.{ℕ, _+_, _-_}
+use lib.ListN.{length}
 use Rattle.text.specs.Bytes.{bytes}
-use Rattle.writer.proofs.Laws.{puts-as, puts-join}
+use Rattle.writer.proofs.Laws.{puts-as}
 use Rattle.printer.proofs.Ads.{name-near, equals-near, root-fits, row-written}
 use Rattle.printer.proofs.Trees.{tree-fits-as, tree-written-as}
-use Rattle.ad.specs.Stored.{offsetAt, lengthAt, rootAt, bytesAt}
-use native.Mathlib.Omega.{arith}
+use Rattle.ad.specs.Stored.{rootAt, bytesAt}
 use borrow.Author.Needs.{needs}
 use Rattle.printer.proofs.put_definition.Statement.{statement}
 use Rattle.printer.proofs.put_definition.Tie as tie

@@ -1,8 +1,8 @@
-use mathlib.Core.Path.{_≡_, refl, sym, _∙_, ap, subst}
-use mathlib.Core.List.{List, [], _∷_, _++_}
-use Prim.Native.Nat.{ℕ, zero, suc, _+_, _-_, _*_, _≤_, _<_}
+use mathlib.Core.Path.{sym, _∙_, ap}
+use mathlib.Core.List.{List, _++_}
+use Prim.Native.Nat.{ℕ, _+_, _-_}
 use lib.ListN.{length, length-append}
-use Rattle.syntax.specs.Print.{literalText, printed}
+use Rattle.syntax.specs.Print.{literalText}
 use Rattle.text.specs.Bytes.{bytes}
 use Rattle.writer.proofs.Laws.{puts-as, puts-join}
 use Rattle.printer.proofs.Leaves.{near-as, text-1, text-2, text-3, text-4, text-5, text-6, text-7, text-8}

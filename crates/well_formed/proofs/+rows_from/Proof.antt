@@ -1,8 +1,5 @@
-use mathlib.Core.Path.{_≡_, refl, sym, _∙_, ap, subst}
-use mathlib.Core.Bool.{Bool, true, false, cond, _&&_}
-use Prim.Native.Nat.{ℕ, zero, suc, _+_, _-_, _*_, _≤_, _<_}
-use lib.ListN.{length}
-use lib.Dec.{ltb, leb, eqb}
+use mathlib.Core.Path.{sym, _∙_, ap}
+use Prim.Native.Nat.{ℕ, _+_, _-_, _<_}
 use Rattle.ad.specs.Stored.{lengthAt, rootAt}
 use Rattle.well_formed.specs.declared.Walk.the-variants.{Tree, Bad}
 use Rattle.well_formed.proofs.Entries.{rows-small, rows-full, rows-stop, rows-unfit, entry-short, entry-room, rows-bad, rows-deep, rows-more, walk-as, room-as, rows-as, rows-room}

@@ -1,8 +1,5 @@
-use mathlib.Core.Path.{_≡_, refl, sym, _∙_, ap, subst}
-use mathlib.Core.Bool.{Bool, true, false, cond, _&&_}
-use Prim.Native.Nat.{ℕ, zero, suc, _+_, _-_, _*_, _≤_, _<_}
-use lib.ListN.{length}
-use lib.Dec.{ltb, leb, eqb}
+use mathlib.Core.Path.{sym, _∙_}
+use Prim.Native.Nat.{ℕ, _+_, _-_, _<_}
 use Rattle.well_formed.proofs.Ways.{walk-small, part-room, way-nothing, way-leaf, one-order, one-bad, one-done, two-order, two-first, two-second, two-done, three-order, three-first, three-second, three-third, three-done}
 use borrow.Author.Needs.{needs}
 use native.Mathlib.Omega.{arith}

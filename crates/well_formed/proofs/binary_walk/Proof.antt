@@ -1,10 +1,5 @@
-use mathlib.Core.Path.{_≡_, refl, sym, _∙_, ap, subst}
-use mathlib.Core.Bool.{Bool, true, false, cond, _&&_}
-use Prim.Native.Nat.{ℕ, zero, suc, _+_, _-_, _*_, _≤_, _<_}
-use lib.ListN.{length}
-use lib.Dec.{ltb, leb, eqb}
-use Rattle.well_formed.proofs.Tests.{binds-small}
-use Rattle.syntax.specs.Grammar.{bindsOf}
+use Prim.Native.Nat.{_-_}
+use Rattle.syntax.specs.Laws.Codes.{binds-low}
 use native.Mathlib.Omega.{arith}
 use borrow.Author.Needs.{needs}
 use Rattle.well_formed.proofs.binary_walk.Statement.{statement}
@@ -17,10 +12,10 @@ use Rattle.well_formed.proofs.larger.Reads as larger-reads
 use Rattle.well_formed.proofs.operator_length.Reads as operator-length-reads
 
 add-around : tie.Need-add-around
-add-around c = let h = binds-small (c .before .before .args .j) in omega arith
+add-around c = let h = binds-low (c .before .before .args .j) in omega arith
 
 add-around-2 : tie.Need-add-around-2
-add-around-2 c = let h = binds-small (c .before .before .before .before .before .args .j) in omega arith
+add-around-2 c = let h = binds-low (c .before .before .before .before .before .args .j) in omega arith
 
 returns : tie.Need-returns
 returns c = cc

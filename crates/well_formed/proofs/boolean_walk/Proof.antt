@@ -1,8 +1,6 @@
-use mathlib.Core.Path.{_≡_, refl, sym, _∙_, ap, subst}
-use mathlib.Core.Bool.{Bool, true, false, cond, _&&_}
-use Prim.Native.Nat.{ℕ, zero, suc, _+_, _-_, _*_, _≤_, _<_}
-use lib.ListN.{length}
-use lib.Dec.{ltb, leb, eqb}
+use mathlib.Core.Path.{sym, _∙_}
+use Prim.Native.Nat.{_-_}
+use lib.Dec.{leb, eqb}
 use Rattle.well_formed.proofs.Tests.{walk-if, walk-bad}
 use Rattle.well_formed.specs.Decode.{booleanFits}
 use Rattle.well_formed.specs.Laws.Shapes.{and-left}

@@ -1,9 +1,6 @@
-use mathlib.Core.Path.{_≡_, refl, sym, _∙_, ap, subst}
-use mathlib.Core.Bool.{Bool, true, false, cond, _&&_}
-use Prim.Native.Nat.{ℕ, zero, suc, _+_, _-_, _*_, _≤_, _<_}
-use lib.ListN.{length}
-use lib.Dec.{ltb, leb, eqb}
-use Rattle.well_formed.proofs.Tests.{ands}
+use mathlib.Core.Path.{sym, _∙_}
+use Prim.Native.Nat.{_-_}
+use Rattle.lexemes.proofs.Laws.{ands}
 use Rattle.well_formed.proofs.Answer.{room-bad, rows-inside, room-not, room-good}
 use Rattle.well_formed.proofs.Entries.{rows-room}
 use native.Mathlib.Omega.{arith}

@@ -1,10 +1,7 @@
-use mathlib.Core.Path.{_≡_, refl, sym, _∙_, ap, subst}
-use mathlib.Core.Bool.{Bool, true, false, cond, _&&_}
-use Prim.Native.Nat.{ℕ, zero, suc, _+_, _-_, _*_, _≤_, _<_}
-use lib.ListN.{length}
-use lib.Dec.{ltb, leb, eqb}
+use mathlib.Core.Path.{_≡_, sym, _∙_, ap}
+use Prim.Native.Nat.{ℕ, _-_, _≤_}
 use mathlib.Core.List.{List}
-use Rattle.ad.specs.Stored.{bytesAt, offsetAt, lengthAt, definedIn}
+use Rattle.ad.specs.Stored.{bytesAt, definedIn}
 use Rattle.well_formed.specs.Decode.{newFrom}
 use Rattle.well_formed.proofs.Answer.{new-more, new-stop, new-end, new-all}
 use borrow.Author.Needs.{needs}

@@ -1,10 +1,5 @@
-use mathlib.Core.Path.{_≡_, refl, sym, _∙_, ap, subst}
-use mathlib.Core.Bool.{Bool, true, false, cond, _&&_}
-use Prim.Native.Nat.{ℕ, zero, suc, _+_, _-_, _*_, _≤_, _<_}
-use lib.ListN.{length}
-use lib.Dec.{ltb, leb, eqb}
+use Prim.Native.Nat.{_-_}
 use Rattle.well_formed.proofs.Tests.{leaf-third, leaf-is, leaf-none, leaf-undefined, leaf-error, leaf-boolean, leaf-integer, leaf-real, leaf-string, leaf-own, leaf-other}
-use native.Mathlib.Omega.{arith}
 use borrow.Author.Needs.{needs}
 use Rattle.well_formed.proofs.leaf_walk.Statement.{statement}
 use Rattle.well_formed.proofs.leaf_walk.Tie as tie

@@ -1,9 +1,6 @@
-use mathlib.Core.Path.{_≡_, refl, sym, _∙_, ap, subst}
-use mathlib.Core.Bool.{Bool, true, false, cond, _&&_}
-use Prim.Native.Nat.{ℕ, zero, suc, _+_, _-_, _*_, _≤_, _<_}
-use lib.ListN.{length}
-use lib.Dec.{ltb, leb, eqb}
-use Rattle.well_formed.specs.Decode.{RowsSmall, rowBefore}
+use mathlib.Core.Path.{sym, ap}
+use Prim.Native.Nat.{_-_}
+use Rattle.well_formed.specs.Decode.{rowBefore}
 use native.Mathlib.Omega.{arith}
 use borrow.Author.Needs.{needs}
 use Rattle.well_formed.proofs.with_row.Statement.{statement}

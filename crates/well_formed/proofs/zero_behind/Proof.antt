@@ -1,12 +1,9 @@
-use mathlib.Core.Path.{_≡_, refl, sym, _∙_, ap, subst}
-use mathlib.Core.Bool.{Bool, true, false, cond, _&&_}
-use Prim.Native.Nat.{ℕ, zero, suc, _+_, _-_, _*_, _≤_, _<_}
-use lib.ListN.{length}
-use lib.Dec.{ltb, leb, eqb}
-use Rattle.well_formed.proofs.Tests.{ands, rest-all}
+use mathlib.Core.Path.{_∙_, ap}
+use Prim.Native.Nat.{_+_, _-_, _*_}
+use Rattle.well_formed.proofs.Tests.{rest-all}
+use Rattle.lexemes.proofs.Laws.{ands}
 use Rattle.lexemes.specs.Lexeme.{every}
 use Rattle.well_formed.specs.Decode.{isZero}
-use native.Mathlib.Omega.{arith}
 use borrow.Author.Needs.{needs}
 use Rattle.well_formed.proofs.zero_behind.Statement.{statement}
 use Rattle.well_formed.proofs.zero_behind.Tie as tie

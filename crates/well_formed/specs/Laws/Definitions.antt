@@ -1,14 +1,14 @@
 -- The ad that is found is the one that stands there, and one that stands there is found. Assumes nothing.
-use Prim.Native.Nat.{ℕ, zero, suc, _+_, _-_, _*_, _≤_, _<_, max}
+use Prim.Native.Nat.{ℕ, zero, suc, _+_, _-_, _*_, _≤_, _<_}
 use native.Mathlib.Nat.{add-zero}
 use native.Mathlib.Omega.{arith}
 use mathlib.Core.Path.{_≡_, refl, sym, _∙_, ap, subst}
-use mathlib.Core.Bool.{Bool, true, false, not, _&&_}
+use mathlib.Core.Bool.{Bool, true, false, _&&_}
 use mathlib.Core.List.{List, [], _∷_, _++_}
-use lib.ListN.{length, getD, drop, length-append}
+use lib.ListN.{length, getD, drop}
 use lib.Seq.{drop-cons, getD-drop}
 use lib.Dec.{ltb, leb, eqb}
-use borrow.Author.Tests.{ltb-true, leb-true, eqb-true, eqb-false, lt-ltb, le-leb, eq-eqb, ne-eqb}
+use borrow.Author.Tests.{ltb-true, leb-true, eqb-true, lt-ltb, le-leb, eq-eqb, ne-eqb}
 use Rattle.syntax.specs.Bounds.{maxNodes, maxLevel}
 use Rattle.syntax.specs.Tree.{Expr, Definition, Ad, size, nodes}
 use Rattle.syntax.specs.Token.{pick}
@@ -20,15 +20,12 @@ use Rattle.ad.specs.Stored.{offsetAt, lengthAt, rootAt, bytesAt}
 use Rattle.ad.specs.Laws.Content.{length-nodes, size-some}
 use Rattle.well_formed.specs.WellFormed.{isWritable, areWritable}
 use Rattle.well_formed.specs.Decode.{Found, got, bad, treeAt, FoundAd, all, none, chainAd, withTree, testAd, standsAt, entryFits, adAt}
-use Rattle.well_formed.specs.Laws.Runs.{Stands, stands-none, stands-at, stands-as, stands-front, stands-join, stands-left, stands-right, bytes-of, bytes-are}
+use Rattle.well_formed.specs.Laws.Runs.{Stands, stands-none, stands-at, stands-as, stands-join, stands-left, stands-right, bytes-of, bytes-are}
 use Rattle.well_formed.specs.Laws.Shapes.{and-left, and-right, and-both}
 use Rattle.well_formed.specs.Laws.Leaves.{All, Run}
 use Rattle.well_formed.specs.Laws.Trees.{tree-sound, tree-complete}
 
 -- ---- the words of a definition
-
-entry : ℕ → ℕ → ℕ → List ℕ
-entry o l r = o ∷ l ∷ r ∷ []
 
 entry-of : (w : List ℕ) (j : ℕ) → 4096 + 3 * j + 3 ≤ length w → Stands w (4096 + 3 * j) (offsetAt w j ∷ lengthAt w j ∷ rootAt w j ∷ [])
 entry-of w j h =

@@ -1,22 +1,21 @@
 -- Literals and references as they stand in memory. Assumes nothing.
 use Prim.Native.Nat.{ℕ, zero, suc, _+_, _-_, _*_, _≤_, _<_}
-use native.Mathlib.Nat.{add-zero}
 use native.Mathlib.Omega.{arith}
-use mathlib.Core.Path.{_≡_, refl, sym, _∙_, ap, subst}
+use mathlib.Core.Path.{_≡_, refl, sym}
 use mathlib.Core.Bool.{Bool, true, false, cond, _&&_}
-use mathlib.Core.List.{List, [], _∷_, _++_}
+use mathlib.Core.List.{List, []}
 use lib.ListN.{length}
-use lib.Dec.{ltb, leb, eqb}
-use borrow.Author.Tests.{ltb-true, leb-true, leb-false, eqb-true, eqb-false, lt-ltb, le-leb, eq-eqb, ne-eqb}
-use Rattle.syntax.specs.Tree.{Literal, undefined, error, boolean, integer, real, string, Scope, own, other, Expr, literal, reference, unary, binary, conditional, size}
+use lib.Dec.{leb, eqb}
+use borrow.Author.Tests.{leb-true, eqb-true, eq-eqb}
+use Rattle.syntax.specs.Tree.{Literal, undefined, error, boolean, integer, real, string, Scope, own, other, Expr, literal, reference, size}
 use Rattle.syntax.specs.Token.{pick}
-use Rattle.lexemes.specs.Lexeme.{isName, isString, isReal, isLiteral}
+use Rattle.lexemes.specs.Lexeme.{isName, isString, isLiteral}
 use Rattle.ad.specs.Layout.{scopeKind, node, literalNode, literalBytes, exprBytes, exprNodes}
 use Rattle.ad.specs.Stored.{kindAt, operandAt, bytesAt}
 use Rattle.well_formed.specs.WellFormed.{isWritable}
 use Rattle.well_formed.specs.Decode.{Found, got, bad, chain, test, standsAt, leafOf, leafAt}
-use Rattle.well_formed.specs.Laws.Runs.{Stands, stands-none, stands-at, stands-as, node-of, kind-is, first-is, second-is, third-is, bytes-of, bytes-are}
-use Rattle.well_formed.specs.Laws.Shapes.{and-left, and-right, and-both}
+use Rattle.well_formed.specs.Laws.Runs.{Stands, stands-none, stands-as, node-of, kind-is, first-is, second-is, third-is, bytes-of, bytes-are}
+use Rattle.well_formed.specs.Laws.Shapes.{and-left, and-right}
 
 -- what holds of the tree that is found, if one is
 abbrev pub All : (Expr → Type 0) → Found → Type 0

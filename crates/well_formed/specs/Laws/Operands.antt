@@ -1,5 +1,5 @@
 -- The expression whose last node is i, by the kind of that node. Assumes nothing.
-use Prim.Native.Nat.{ℕ, zero, suc, _+_, _-_, _≤_, _<_}
+use Prim.Native.Nat.{ℕ, _+_, _-_, _≤_, _<_}
 use native.Mathlib.Omega.{arith}
 use mathlib.Core.Path.{_≡_, refl, sym, _∙_, ap, subst}
 use mathlib.Core.List.{List}
@@ -7,7 +7,7 @@ use lib.ListN.{length}
 use Rattle.syntax.specs.Tree.{Expr, literal, reference, unary, binary, conditional, size}
 use Rattle.syntax.specs.declared.Binary.{Binary}
 use Rattle.syntax.specs.declared.Unary.{Unary}
-use Rattle.ad.specs.Layout.{unaryKind, binaryKind, exprBytes}
+use Rattle.ad.specs.Layout.{exprBytes}
 use Rattle.ad.specs.Stored.{kindAt, operandAt, unaryOf, binaryOf}
 use Rattle.ad.specs.Laws.Content.{unary-found, unary-range, binary-found, binary-high, size-some}
 use Rattle.well_formed.specs.Decode.{got, leafAt}

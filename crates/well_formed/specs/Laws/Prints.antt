@@ -1,8 +1,8 @@
 -- How long and how deep an expression prints, at most. Assumes nothing.
-use Prim.Native.Nat.{ℕ, zero, suc, _+_, _-_, _*_, _^_, _≤_, _<_, max}
+use Prim.Native.Nat.{ℕ, _+_, _-_, _*_, _^_, _≤_, _<_}
 use Prim.Native.Char.{code}
 use native.Mathlib.Omega.{arith}
-use mathlib.Core.Path.{_≡_, refl, sym, _∙_, ap}
+use mathlib.Core.Path.{_≡_, refl, _∙_}
 use mathlib.Core.Bool.{Bool, true, false, cond, _&&_}
 use mathlib.Core.List.{List, [], _∷_, _++_}
 use lib.ListN.{length, length-append}
@@ -12,12 +12,12 @@ use Rattle.text.specs.Bytes.{bytes}
 use Rattle.syntax.specs.Tree.{Literal, undefined, error, boolean, integer, real, string, Scope, own, other, Expr, literal, reference, unary, binary, conditional, Definition, Ad, size, nodes}
 use Rattle.syntax.specs.Token.{pick}
 use Rattle.syntax.specs.Grammar.{bindsOf}
-use Rattle.syntax.specs.Print.{decimal, escaped, escapedAll, literalText, binaryText, unaryText, binds, wrap, referenceText, printed, definitionText, definitionsText, printedAd, wrapLevel, levelOf}
+use Rattle.syntax.specs.Print.{escaped, escapedAll, literalText, binaryText, unaryText, binds, wrap, referenceText, printed, definitionText, definitionsText, printedAd, levelOf}
 use Rattle.syntax.specs.declared.Binary.{Binary}
 use Rattle.syntax.specs.declared.Binary.the-variants.{Or, And, Equal, NotEqual, Is, Isnt, Less, LessOrEqual, Greater, GreaterOrEqual, Add, Subtract, Multiply, Divide, Remainder}
 use Rattle.syntax.specs.declared.Unary.{Unary}
 use Rattle.syntax.specs.declared.Unary.the-variants.{Not, Plus, Minus}
-use Rattle.lexemes.specs.Lexeme.{isName, isString, isReal, isLiteral}
+use Rattle.lexemes.specs.Lexeme.{isName, isReal, isLiteral}
 use Rattle.lexemes.specs.Laws.Digits.{decimal-short, real-short}
 use Rattle.ad.specs.Layout.{literalBytes, exprBytes, adBytes}
 use Rattle.well_formed.specs.WellFormed.{isWritable, areWritable}
@@ -152,7 +152,7 @@ level-short (conditional a b c) = omega (arith, around-short 1 (binds a) (levelO
 
 -- ---- ads
 
-length-definition : (d : Definition) → length (definitionText d) ≡ length (d .name) + 3 + length (printed (d .expression))
+pub length-definition : (d : Definition) → length (definitionText d) ≡ length (d .name) + 3 + length (printed (d .expression))
 unfolding bytes
 length-definition d = omega (arith, length-append (d .name) (bytes " = " ++ printed (d .expression)))
 

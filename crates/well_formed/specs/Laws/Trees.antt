@@ -2,17 +2,17 @@
 use Prim.Native.Nat.{ℕ, zero, suc, _+_, _-_, _*_, _≤_, _<_}
 use native.Mathlib.Omega.{arith}
 use mathlib.Core.Path.{_≡_, refl, sym, _∙_, ap, subst}
-use mathlib.Core.Bool.{Bool, true, false, _&&_}
-use mathlib.Core.List.{List, [], _∷_, _++_, append-nil}
-use lib.ListN.{length, length-append}
-use Rattle.syntax.specs.Tree.{Literal, Scope, Expr, literal, reference, unary, binary, conditional, size}
+use mathlib.Core.Bool.{true, _&&_}
+use mathlib.Core.List.{List, [], _++_, append-nil}
+use lib.ListN.{length}
+use Rattle.syntax.specs.Tree.{Expr, literal, reference, unary, binary, conditional, size}
 use Rattle.syntax.specs.declared.Binary.{Binary}
 use Rattle.syntax.specs.declared.Unary.{Unary}
-use Rattle.ad.specs.Layout.{unaryKind, binaryKind, node, literalNode, exprBytes, exprNodes}
+use Rattle.ad.specs.Layout.{unaryKind, binaryKind, node, exprBytes, exprNodes}
 use Rattle.ad.specs.Stored.{kindAt, operandAt, unaryOf, binaryOf}
 use Rattle.ad.specs.Laws.Content.{unary-found, unary-range, binary-found, binary-high, binary-low, length-nodes, size-some}
 use Rattle.well_formed.specs.WellFormed.{isWritable}
-use Rattle.well_formed.specs.Decode.{Found, got, bad, chain, shapeOf, shapeAt, onShape, leafAt, treeAt}
+use Rattle.well_formed.specs.Decode.{Found, got, shapeAt, onShape, leafAt, treeAt}
 use Rattle.well_formed.specs.Laws.Runs.{Stands, stands-at, stands-as, stands-join, stands-left, stands-right, node-of, kind-is, first-is, second-is, third-is}
 use Rattle.well_formed.specs.Laws.Shapes.{and-left, and-right, and-both, Facts, shape-facts, leaf-shape, one-shape, two-shape, three-shape}
 use Rattle.well_formed.specs.Laws.Leaves.{All, on-chain, Run, leaf-sound, literal-complete, name-complete}

@@ -4,21 +4,18 @@ use native.Mathlib.Nat.{add-zero, zero-add}
 use native.Mathlib.Omega.{arith}
 use mathlib.Core.Path.{_≡_, refl, sym, _∙_, ap, subst}
 use mathlib.Core.Bool.{Bool, true, false, not, _&&_}
-use mathlib.Core.List.{List, [], _∷_, _++_, append-assoc, append-nil}
+use mathlib.Core.List.{List, [], _∷_, _++_, append-assoc}
 use lib.ListN.{length, getD, take, drop, replicate, length-append, length-take, length-drop, length-replicate, getD-replicate, take-append-drop}
-use lib.Seq.{drop-at, take-at, drop-drop, getD-drop, drop-append-seam, take-append-seam, take-append-add}
-use lib.Dec.{eqb}
+use lib.Seq.{drop-at, take-at, drop-drop, getD-drop, drop-append-seam, take-append-add}
 use borrow.Author.Tests.{eqb-true}
-use Rattle.syntax.specs.Bounds.{maxNodes, maxDefinitions, maxLevel}
-use Rattle.syntax.specs.Tree.{Expr, Definition, Ad, size, nodes}
-use Rattle.syntax.specs.Grammar.{defined, NewAfter, Distinct, Within}
-use Rattle.syntax.specs.Print.{adLevel}
+use Rattle.syntax.specs.Tree.{Definition, Ad, size, nodes}
+use Rattle.syntax.specs.Grammar.{defined, NewAfter, Distinct}
 use Rattle.lexemes.specs.Lexeme.{every}
-use Rattle.ad.specs.Layout.{exprBytes, adBytes, adNodes, adDefinitions, nodeWords, adWords, adBytesRoom, padded, storedWords, storedBytes}
-use Rattle.ad.specs.Stored.{offsetAt, lengthAt, rootAt, bytesAt, definedIn}
+use Rattle.ad.specs.Layout.{exprBytes, adBytes, adNodes, adDefinitions, storedWords, storedBytes}
+use Rattle.ad.specs.Stored.{offsetAt, lengthAt, bytesAt, definedIn}
 use Rattle.ad.specs.Laws.Content.{length-ad}
 use Rattle.ad.specs.Laws.Names.{names-in}
-use Rattle.well_formed.specs.WellFormed.{areWritable, Bounded, Holds}
+use Rattle.well_formed.specs.WellFormed.{Holds}
 use Rattle.well_formed.specs.Decode.{all, adAt, newFrom, isZero, zeroBehind}
 use Rattle.well_formed.specs.Laws.Runs.{Stands, stands-at, stands-as, stands-front, stands-left, stands-right, stands-inside, bytes-are}
 use Rattle.well_formed.specs.Laws.Shapes.{and-left, and-right, and-both}

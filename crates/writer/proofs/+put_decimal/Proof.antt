@@ -1,8 +1,5 @@
-use mathlib.Core.Path.{_≡_, refl, sym, _∙_, ap, subst}
-use Prim.Native.Nat.{ℕ, zero, suc, _+_, _-_, _*_, _/_, _%_, _≤_, _<_}
-use lib.ListN.{length, drop, set}
-use lib.Seq.{sets}
-use Rattle.writer.proofs.Laws.{decimal-puts-one, decimal-puts-more, near-decimal, near-decimal-last, near-one, set-length, puts-length}
+use Prim.Native.Nat.{ℕ, _+_, _-_, _<_}
+use Rattle.writer.proofs.Laws.{decimal-puts-one, decimal-puts-more, near-decimal, near-decimal-last, near-one}
 use borrow.Author.Needs.{needs}
 use native.Mathlib.Omega.{arith}
 use Prim.Native.Nat.{ℕ, _<_}

@@ -1,8 +1,4 @@
-use mathlib.Core.Path.{_≡_, refl, sym, _∙_, ap, subst}
-use Prim.Native.Nat.{ℕ, zero, suc, _+_, _-_, _*_, _/_, _%_, _≤_, _<_}
-use lib.ListN.{length, drop, set}
-use lib.Seq.{sets}
-use Rattle.syntax.specs.Print.{binaryText}
+use Prim.Native.Nat.{_-_}
 use Rattle.writer.proofs.Laws.{puts-join, puts-byte}
 use native.Mathlib.Omega.{arith}
 use borrow.Author.Needs.{needs}

@@ -1,7 +1,6 @@
-use mathlib.Core.Path.{_≡_, refl, sym, _∙_, ap, subst}
-use Prim.Native.Nat.{ℕ, zero, suc, _+_, _-_, _*_, _/_, _%_, _≤_, _<_}
-use lib.ListN.{length, drop, set}
-use lib.Seq.{sets}
+use mathlib.Core.Path.{sym, ap}
+use Prim.Native.Nat.{_-_}
+use lib.ListN.{length}
 use Rattle.writer.proofs.Laws.{puts-as, puts-byte, escaped-1, escaped-2, escaped-3, escaped-4, escaped-5}
 use native.Mathlib.Omega.{arith}
 use borrow.Author.Needs.{needs}
