@@ -7,7 +7,7 @@ use Prim.Native.Nat.{ℕ, zero, suc, _+_, _-_, _*_, _≤_, _<_, min}
 use native.Mathlib.Decide.{ℕ-discrete, decLt}
 use native.Mathlib.Nat.{mul-le-mul-right, mul-le-mul-left, le-refl}
 use native.Mathlib.Omega.{arith}
-use lib.ListN.{length, getD, take, drop, replicate, length-append, length-take, length-drop, length-map, length-replicate, take-append-drop, List·getD-eq-default}
+use lib.ListN.{length, getD, set, take, drop, replicate, length-append, length-take, length-drop, length-map, length-replicate, take-append-drop, List·getD-eq-default}
 use lib.Seq.{length-take-le, getD-drop, ext-getD}
 use lib.Dec.{eqb, ltb, leb}
 use borrow.Author.Tests.{leb-true, leb-false}
@@ -24,7 +24,7 @@ use Rattle.links.specs.Laws.Counting.{nodes-few}
 use Rattle.links.specs.Laws.Soundness.{pair-sound}
 use Rattle.graph.specs.Members.{numbers, raised}
 use Rattle.marks.specs.Memory.{view, Clear, Roomy, Cleared, Grows}
-use Rattle.dependency.specs.Traversal.{endedAt, PlaceFits, Ready, Traversed}
+use Rattle.dependency.specs.Traversal.{endedAt, PlaceFits, FlaggedFrom, Ready, Traversed}
 use Rattle.links.specs.Laws.Numbering.{stands-small, sources-are, definitions-fit}
 use Rattle.graph.specs.Laws.Transitions.{state-eq}
 use Rattle.links.specs.Laws.Numbering.{pair-size}
@@ -208,9 +208,9 @@ module _ (v b w c : List ℕ) (f : Formed v) (g : Formed w) where
               (let x = length-drop len ls in let y = length-replicate {A = ℕ} (length ls - length l) 0 in omega arith)
               (λ i h. getD-drop len ls i 0 ∙ t .zeros (len + i) (omega arith) ∙ sym (zero-at (length ls - length l) i))
 
-      pub going-end : endedAt pl (d + d′ + length roots) ≡ true → Traversed (pairGraph v b w c) count len ta st fr fo fl ls
+      pub going-end : ((x : ℕ) → getD fl x 0 ≤ 1) → endedAt pl (d + d′ + length roots) ≡ true → Traversed (pairGraph v b w c) count len ta st fr fo fl ls
       unfolding view led
-      going-end h =
+      going-end bits h =
           let pe : pl ≡ Between (searches (pairGraph v b w c)) = ended-place pl (valid .place-ok) h in
           let en : Ends (pairGraph v b w c) (pair-sound v b w c f g) (transitions (pairGraph v b w c) count (first (pairGraph v b w c))) =
           over-at (pairGraph v b w c) (pair-sound v b w c f g) count (t .most) (sym place-is ∙ pe) in
@@ -222,11 +222,26 @@ module _ (v b w c : List ℕ) (f : Formed v) (g : Formed w) where
             small = most-small;
             resolved = λ x r. recorded-is G (getD ta x 0) (G .links x) (λ y e. S .in-slots y (valid .target-ok x y e)) (sym (rw r refl) ∙ en′ .resolved x);
             circular = en′ .flagged;
+            bits = bits;
             order = en′ .order;
             is-list = en′ .is-list;
             length-is = sym (length-take-le len ls (t .fits)) ∙ ap length (en′ .written) ∙ length-map (en′ .order) suc;
             written = written-is (en′ .order) (en′ .written);
           }
+
+-- a transition keeps flags of 0 and 1
+flagged-bits : (pl : Place) (fl fl′ : List ℕ) → ((x : ℕ) → getD fl x 0 ≤ 1) → FlaggedFrom pl fl fl′ → (x : ℕ) → getD fl′ x 0 ≤ 1
+flagged-bits (Resolving i) fl fl′ h e x = rw e (h x)
+flagged-bits (Between k) fl fl′ h e x = rw e (h x)
+flagged-bits (Inside k y) fl fl′ h (inl e) x = rw e (h x)
+flagged-bits (Inside k y) fl fl′ h (inr e) x = rw e (set-bit fl y x (h x))
+  where
+    set-bit : (l : List ℕ) (i j : ℕ) → getD l j 0 ≤ 1 → getD (set l i 1) j 0 ≤ 1
+    set-bit [] i j k = k
+    set-bit (a ∷ l) zero zero k = omega arith
+    set-bit (a ∷ l) zero (suc j) k = k
+    set-bit (a ∷ l) (suc i) zero k = k
+    set-bit (a ∷ l) (suc i) (suc j) k = set-bit l i j k
 
 -- what holds at each turn of the loop: n searches, and slices as long as they were
 pub record Turn (v b w c roots : List ℕ) (nv dv nw dw n count : ℕ) (pl : Place) (len : ℕ) (ta₀ st₀ fr₀ fo₀ fl₀ ls₀ ta st fr fo fl ls : List ℕ) : Type 0 where
@@ -241,6 +256,7 @@ pub record Turn (v b w c roots : List ℕ) (nv dv nw dw n count : ℕ) (pl : Pla
   pub fo-same : length fo ≡ length fo₀
   pub fl-same : length fl ≡ length fl₀
   pub ls-same : length ls ≡ length ls₀
+  pub bits : (x : ℕ) → getD fl x 0 ≤ 1
 
 pub turn-first : {v w : List ℕ} (b c : List ℕ) {roots : List ℕ} {nv dv nw dw n : ℕ} {pl : Place} {len : ℕ} {ta st fr fo fl ls : List ℕ} → Measured v nv dv → Measured w nw dw → roots ≡ pairGraph v b w c .roots →
     Ready v w ta st fr fo fl ls → n ≡ dv + dw + length roots → pl ≡ cond (ltb 0 (nv + nw)) (Resolving 0) (Between 0) → len ≡ 0 →
@@ -257,6 +273,7 @@ turn-first {v} {w} b c {pl = pl} {ta = ta} {st} {fr} {fo} {fl} {ls} p q re r ne 
   fo-same = refl;
   fl-same = refl;
   ls-same = refl;
+  bits = λ x. let h = r .cleared .flag-clear x in omega arith;
 }
 
 module _ {v b w c roots : List ℕ} {nv dv nw dw n count : ℕ} {pl : Place} {len : ℕ} {ta₀ st₀ fr₀ fo₀ fl₀ ls₀ ta st fr fo fl ls : List ℕ}
@@ -265,7 +282,7 @@ module _ {v b w c roots : List ℕ} {nv dv nw dw n count : ℕ} {pl : Place} {le
   test h = ap (endedAt pl) (sym (t .searches-are)) ∙ sym e ∙ h
 
   pub turn-end : r ≡ true → Traversed (pairGraph v b w c) count len ta st fr fo fl ls
-  turn-end h = going-end v b w c (t .first-is .formed) (t .second-is .formed) (t .going) (t .first-is) (t .second-is) (t .roots-are) (test h)
+  turn-end h = going-end v b w c (t .first-is .formed) (t .second-is .formed) (t .going) (t .first-is) (t .second-is) (t .roots-are) (t .bits) (test h)
 
   pub turn-fits : r ≡ false → PlaceFits v w (dv + dw + length roots) (dv + dw) len ls pl
   turn-fits h = going-fits v b w c (t .first-is .formed) (t .second-is .formed) (t .going) (t .first-is) (t .second-is) (t .roots-are) (test h)
@@ -277,19 +294,20 @@ module _ {v b w c roots : List ℕ} {nv dv nw dw n count : ℕ} {pl : Place} {le
   turn-count h = count-fits v b w c (t .first-is .formed) (t .second-is .formed) (t .going) (t .first-is) (t .second-is) (t .roots-are) (test h)
 
   pub turn-next : {pl′ : Place} {len′ : ℕ} {ta′ st′ fr′ fo′ fl′ ls′ : List ℕ} → r ≡ false →
-      (view pl′ len′ ta′ st′ fr′ fo′ fl′ ls′ ≡ transition (pairGraph v b w c) (view pl len ta st fr fo fl ls)) × Grows len len′ ls ls′ →
+      (view pl′ len′ ta′ st′ fr′ fo′ fl′ ls′ ≡ transition (pairGraph v b w c) (view pl len ta st fr fo fl ls)) × (Grows len len′ ls ls′ × FlaggedFrom pl fl fl′) →
       length ta′ ≡ length ta → length st′ ≡ length st → length fr′ ≡ length fr → length fo′ ≡ length fo → length fl′ ≡ length fl → length ls′ ≡ length ls →
       Turn v b w c roots nv dv nw dw n (count + 1) pl′ len′ ta₀ st₀ fr₀ fo₀ fl₀ ls₀ ta′ st′ fr′ fo′ fl′ ls′
-  turn-next h m e₁ e₂ e₃ e₄ e₅ e₆ = record {
+  turn-next {fl′ = fl′} h m e₁ e₂ e₃ e₄ e₅ e₆ = record {
     first-is = t .first-is;
     second-is = t .second-is;
     roots-are = t .roots-are;
     searches-are = t .searches-are;
-    going = going-next v b w c (t .first-is .formed) (t .second-is .formed) (t .going) (t .first-is) (t .second-is) (t .roots-are) (test h) (m .0) (m .1) e₁ e₂ e₃ e₄ e₅ e₆;
+    going = going-next v b w c (t .first-is .formed) (t .second-is .formed) (t .going) (t .first-is) (t .second-is) (t .roots-are) (test h) (m .0) (m .1 .0) e₁ e₂ e₃ e₄ e₅ e₆;
     ta-same = e₁ ∙ t .ta-same;
     st-same = e₂ ∙ t .st-same;
     fr-same = e₃ ∙ t .fr-same;
     fo-same = e₄ ∙ t .fo-same;
     fl-same = e₅ ∙ t .fl-same;
     ls-same = e₆ ∙ t .ls-same;
+    bits = flagged-bits pl fl fl′ (t .bits) (m .1 .1);
   }

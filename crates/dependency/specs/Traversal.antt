@@ -12,7 +12,7 @@ use Rattle.graph.specs.declared.Place.{Place}
 use Rattle.graph.specs.declared.Place.the-variants.{Resolving, Between, Inside}
 use Rattle.ad.specs.Stored.{nodeCount}
 use Rattle.links.specs.Pair.{Formed, Stands}
-use Rattle.marks.specs.Memory.{view, Roomy, Cleared}
+use Rattle.marks.specs.Memory.{view, Flagged, Roomy, Cleared}
 use Rattle.dependency.specs.declared.Lookup.{Lookup}
 use Rattle.dependency.specs.declared.Lookup.the-variants.{Found, Absent, Circular}
 
@@ -34,6 +34,8 @@ pub record Traversed (G : Graph) (count len : ℕ) (target stamp from followed f
   -- each reference's target is recorded: one more than its definition's root, 0 where there is none
   pub resolved : (x : ℕ) → G .ref x ≡ true → getD target x 0 ≡ marked (G .links x)
   pub circular : Flags G (raised flag)
+  -- a flag is 1 or 0
+  pub bits : (x : ℕ) → getD flag x 0 ≤ 1
   pub order : List ℕ
   pub is-list : IsList G order
   pub length-is : len ≡ length order
@@ -46,6 +48,12 @@ abbrev pub PlaceFits : (v w : List ℕ) → (searches m len : ℕ) → (list : L
 PlaceFits v w searches m len list (Resolving i) = i < nodeCount v + nodeCount w
 PlaceFits v w searches m len list (Between k) = k < searches
 PlaceFits v w searches m len list (Inside k x) = Stands v w x × (k < searches) × (m ≤ k → len < length list)
+
+-- what one transition does to the flags: 'only that node's marks'
+abbrev pub FlaggedFrom : Place → List ℕ → List ℕ → Type 0
+FlaggedFrom (Resolving i) before after = after ≡ before
+FlaggedFrom (Between k) before after = after ≡ before
+FlaggedFrom (Inside k x) before after = Flagged x before after
 
 -- whether there is no search left, of n: for 'its end is what these moves .. make'
 abbrev pub endedAt : Place → ℕ → Bool

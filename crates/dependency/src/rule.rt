@@ -10,8 +10,8 @@ ghost use Rattle.graph.specs.Transition.{transition};
 ghost use Rattle.graph.specs.declared.Place.the-variants.{Resolving, Between, Inside};
 ghost use Rattle.ad.specs.Stored.{nodeCount};
 ghost use Rattle.links.specs.Pair.{pairGraph, Measured, Stands};
-ghost use Rattle.marks.specs.Memory.{view, Roomy, Grows};
-ghost use Rattle.dependency.specs.Traversal.{PlaceFits};
+ghost use Rattle.marks.specs.Memory.{view, Flagged, Roomy, Grows};
+ghost use Rattle.dependency.specs.Traversal.{PlaceFits, FlaggedFrom};
 
 // The transition that resolves the node of index i.
 fn resolving(
@@ -80,6 +80,7 @@ fn inside(
     requires room { ⌜ Roomy (now target) (now stamp) (now from) (now followed) (now flag) (now list) × (p .definitions + q .definitions ≤ k → len < length (now list)) ⌝ }
     ensures { λ r. ⌜ ((b c : List ℕ) → now (roots .entry) ≡ pairGraph (now (v .entry)) b (now (w .entry)) c .roots → view (r .place) (r .len) (now (target .entry)) (now (stamp .exit)) (now (from .exit)) (now (followed .exit)) (now (flag .exit)) (now (list .exit)) ≡ transition (pairGraph (now (v .entry)) b (now (w .entry)) c) (view (Inside k x) len (now (target .entry)) (now (stamp .entry)) (now (from .entry)) (now (followed .entry)) (now (flag .entry)) (now (list .entry)))) ⌝ }
     ensures room { λ r. ⌜ Grows len (r .len) (now (list .entry)) (now (list .exit)) ⌝ }
+    ensures flags { λ r. ⌜ Flagged x (now (flag .entry)) (now (flag .exit)) ⌝ }
 {
     let m = p.definitions + q.definitions;
     let i = followed[x];
@@ -115,6 +116,7 @@ pub fn transition(
     requires room { ⌜ Roomy (now target) (now stamp) (now from) (now followed) (now flag) (now list) × PlaceFits (now v) (now w) (p .definitions + q .definitions + length (now roots)) (p .definitions + q .definitions) (s .len) (now list) (s .place) ⌝ }
     ensures { λ r. ⌜ view (r .place) (r .len) (now (target .exit)) (now (stamp .exit)) (now (from .exit)) (now (followed .exit)) (now (flag .exit)) (now (list .exit)) ≡ transition (pairGraph (now (v .entry)) (now (b .entry)) (now (w .entry)) (now (c .entry))) (view (s .place) (s .len) (now (target .entry)) (now (stamp .entry)) (now (from .entry)) (now (followed .entry)) (now (flag .entry)) (now (list .entry))) ⌝ }
     ensures room { λ r. ⌜ Grows (s .len) (r .len) (now (list .entry)) (now (list .exit)) ⌝ }
+    ensures flags { λ r. ⌜ FlaggedFrom (s .place) (now (flag .entry)) (now (flag .exit)) ⌝ }
 {
     let place = s.place;
     let len = s.len;

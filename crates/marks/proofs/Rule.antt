@@ -18,7 +18,7 @@ use Rattle.graph.specs.Laws.Transitions.{state-eq, transition-resolve, transiti
 use Rattle.graph.specs.declared.Place.{Place}
 use Rattle.graph.specs.declared.Place.the-variants.{Resolving, Between, Inside}
 use Rattle.graph.specs.Members.{numbers, raised}
-use Rattle.marks.specs.Memory.{view, flaggedAt, AtNode, AtStart, AtLink, AtLast, Grows}
+use Rattle.marks.specs.Memory.{view, flaggedAt, Flagged, AtNode, AtStart, AtLink, AtLast, Grows}
 
 -- ---- a slice of marks with one changed
 
@@ -182,3 +182,9 @@ grows-none len ls = record { longer = omega arith; fits = λ h. h; behind = λ i
 
 pub grows-one : (len v : ℕ) (ls : List ℕ) → len < length ls → Grows len (len + 1) ls (set ls len v)
 grows-one len v ls h = record { longer = omega arith; fits = λ k. omega arith; behind = λ i k. getD-set-other ls len i v 0 (λ e. omega arith) }
+
+-- the flag that a link passed sets, or none
+pub flagged-by : (before : List ℕ) (x : ℕ) (b : Bool) {after : List ℕ} → after ≡ flaggedAt before x b → Flagged x before after
+unfolding flaggedAt
+flagged-by before x true e = inr e
+flagged-by before x false e = inl e

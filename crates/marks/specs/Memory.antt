@@ -1,6 +1,7 @@
 -- The traversal's memory: the place, the marks and the list as the rule's state. An index of each slice of marks is a node's
 -- number. Assumes nothing.
 use mathlib.Core.Path.{_≡_}
+use mathlib.Core.Logic.{_⊎_}
 use mathlib.Core.Bool.{Bool, true, false, cond, _&&_}
 use mathlib.Core.List.{List, [], _∷_}
 use Prim.Native.Nat.{ℕ, zero, suc, _+_, _≤_, _<_}
@@ -27,6 +28,10 @@ view place len target stamp from followed flag list = record {
 -- the flags, one set where b holds: for 'changes, besides its own place, only that node's marks'
 unfoldable pub flaggedAt : List ℕ → ℕ → Bool → List ℕ
 flaggedAt flag x b = cond b (set flag x 1) flag
+
+-- the flags are kept, or that of the node x is set: 'changes .. only that node's marks'
+abbrev pub Flagged : ℕ → List ℕ → List ℕ → Type 0
+Flagged x before after = (after ≡ before) ⊎ (after ≡ set before x 1)
 
 -- the room of each slice: every node of each side has its own, '1,024 a side' (docs/LAYOUT.md: 'Layouts are the team's, written
 -- in docs/')

@@ -8,7 +8,7 @@ ghost use lib.ListN.{length, set};
 ghost use Rattle.graph.specs.Graph.{Graph};
 ghost use Rattle.graph.specs.Transition.{back, transition};
 ghost use Rattle.graph.specs.declared.Place.the-variants.{Resolving, Between, Inside};
-ghost use Rattle.marks.specs.Memory.{view, flaggedAt, AtNode, AtStart, AtLink, AtLast, Grows};
+ghost use Rattle.marks.specs.Memory.{Flagged, view, flaggedAt, AtNode, AtStart, AtLink, AtLast, Grows};
 
 // Where the traversal stands, and how long the list is.
 pub struct Position {
@@ -117,6 +117,7 @@ pub fn follow(
     requires link { ⌜ (y < length (now stamp)) × (y < length (now from)) × (y < length (now followed)) ⌝ }
     ensures { λ r. ⌜ ((G : Graph) (ta ls : List ℕ) → AtLink G k x y t i closes ta (now (followed .entry)) (now (flag .entry)) → view (r .place) (r .len) ta (now (stamp .exit)) (now (from .exit)) (now (followed .exit)) (now (flag .exit)) ls ≡ transition G (view (Inside k x) len ta (now (stamp .entry)) (now (from .entry)) (now (followed .entry)) (now (flag .entry)) ls)) ⌝ }
     ensures kept { λ r. ⌜ r .len ≡ len ⌝ }
+    ensures flags { λ r. ⌜ Flagged x (now (flag .entry)) (now (flag .exit)) ⌝ }
 {
     if stamp[y] == t {
         pass(followed, flag, x, i, closes);

@@ -70,6 +70,7 @@ orders-of v b w c {count} {len} e t = record {
   answers = refl;
   orders = record {
     flagged = t .circular;
+    bits = t .bits;
     order = t .order;
     entered = entered-of t;
     long = t .length-is;

@@ -1,10 +1,10 @@
 -- The circular references and the list of two stored ads, whatever is lent. v and b are the words and bytes of the first ad, w and c
 -- those of the second. Assumes nothing.
-use Prim.Native.Nat.{ℕ, suc, _-_}
+use Prim.Native.Nat.{ℕ, suc, _-_, _≤_}
 use mathlib.Core.Path.{_≡_}
 use mathlib.Core.Bool.{Bool, true, false, _||_}
 use mathlib.Core.List.{List, [], _++_, map}
-use lib.ListN.{length, take, drop, replicate}
+use lib.ListN.{length, getD, take, drop, replicate}
 use lib.Dec.{ltb}
 use Rattle.ad.specs.Layout.{adWords, adBytesRoom}
 use Rattle.graph.specs.Members.{raised}
@@ -18,6 +18,8 @@ use Rattle.ordering.specs.declared.Order.the-variants.{Refused, Found}
 -- flags and list are what is lent of them after it, and a flag is 1 for a circular reference.
 pub record Orders (v b w c flags list : List ℕ) (count len : ℕ) : Type 0 where
   pub flagged : Flags (pairGraph v b w c) (raised flags)
+  -- every other flag is 0
+  pub bits : (x : ℕ) → getD flags x 0 ≤ 1
   pub order : List ℕ
   pub entered : Entered (needs (pairGraph v b w c) (raised flags)) [] (pairGraph v b w c .roots) order
   pub long : len ≡ length order

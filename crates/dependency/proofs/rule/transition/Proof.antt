@@ -1,3 +1,4 @@
+use mathlib.Core.Path.{refl}
 use denote.Ref.{now}
 use lib.ListN.{length}
 use Prim.Native.Nat.{_+_}
@@ -18,13 +19,13 @@ inside-requires : tie.Need-inside-requires
 inside-requires c κs = let f = fits-inside (now (c .before .before .before .before .before .before .before .before .before .before .before .before .before .before .before .before .before .before .before .before .args .v)) (now (c .before .before .before .before .before .before .before .before .before .before .before .before .before .before .before .before .before .before .before .before .args .w)) ((c .before .before .before .before .before .before .before .before .before .before .before .before .before .before .before .before .before .before .before .before .args .p) .definitions + (c .before .before .before .before .before .before .before .before .before .before .before .before .before .before .before .before .before .before .before .before .args .q) .definitions + length (now (c .before .before .before .before .before .before .before .before .before .before .before .before .before .before .before .before .before .before .before .before .args .roots))) ((c .before .before .before .before .before .before .before .before .before .before .before .before .before .before .before .before .before .before .before .before .args .p) .definitions + (c .before .before .before .before .before .before .before .before .before .before .before .before .before .before .before .before .before .before .before .before .args .q) .definitions) ((c .before .before .before .before .before .before .before .before .before .before .before .before .before .before .before .before .before .before .before .before .args .s) .len) (now (c .before .before .before .before .before .before .before .before .before .before .before .before .before .before .before .before .before .before .before .before .args .list)) ((c .before .before .before .before .before .before .before .before .before .before .before .before .before .before .before .before .before .before .before .before .args .s) .place) (c .before .before .before .before .before .before .before .before .before .before .before .before .before .before .before .before .before .before .before .before .pre .1 .1) (c .before .before .before .before .before .before .before .place3 .given .1) in ((c .before .before .before .before .before .before .before .before .before .before .before .before .before .before .before .before .before .before .before .before .pre .0 .0, c .before .before .before .before .before .before .before .before .before .before .before .before .before .before .before .before .before .before .before .before .pre .0 .1, f .0, f .1, roots-few (now (c .before .before .before .before .before .before .before .before .before .before .before .before .before .before .before .before .before .before .before .before .args .b)) (now (c .before .before .before .before .before .before .before .before .before .before .before .before .before .before .before .before .before .before .before .before .args .c)) (c .before .before .before .before .before .before .before .before .before .before .before .before .before .before .before .before .before .before .before .before .pre .0 .0) (c .before .before .before .before .before .before .before .before .before .before .before .before .before .before .before .before .before .before .before .before .pre .0 .1) (c .before .before .before .before .before .before .before .before .before .before .before .before .before .before .before .before .before .before .before .before .pre .0 .2)), (c .before .before .before .before .before .before .before .before .before .before .before .before .before .before .before .before .before .before .before .before .pre .1 .0, f .2))
 
 returns : tie.Need-returns
-returns c = (rw (c .before .before .before .before .before .place .given .1) (c .before .before .resolving .ensures .0 _ _ _ _ _), kept-grows _ (c .before .before .resolving .ensures .1))
+returns c = (rw (c .before .before .before .before .before .place .given .1) (c .before .before .resolving .ensures .0 _ _ _ _ _), (kept-grows _ (c .before .before .resolving .ensures .1), rw (c .before .before .before .before .before .place .given .1) refl))
 
 returns-2 : tie.Need-returns-2
-returns-2 c = (rw (c .before .before .before .before .before .before .before .before .before .before .before .place2 .given .1) (c .before .before .before .before .before .before .between .ensures .0 _ _ _ _ _ (c .before .before .before .before .before .before .before .before .before .before .before .before .before .before .before .before .before .before .before .before .before .before .before .before .pre .0 .2)), kept-grows _ (c .before .before .before .before .before .before .between .ensures .1))
+returns-2 c = (rw (c .before .before .before .before .before .before .before .before .before .before .before .place2 .given .1) (c .before .before .before .before .before .before .between .ensures .0 _ _ _ _ _ (c .before .before .before .before .before .before .before .before .before .before .before .before .before .before .before .before .before .before .before .before .before .before .before .before .pre .0 .2)), (kept-grows _ (c .before .before .before .before .before .before .between .ensures .1), rw (c .before .before .before .before .before .before .before .before .before .before .before .place2 .given .1) refl))
 
 returns-3 : tie.Need-returns-3
-returns-3 c = (rw (c .before .before .before .before .before .before .before .before .before .before .before .before .before .before .before .before .before .before .place3 .given .1) (c .before .before .before .before .before .before .before .before .before .before .inside .ensures .0 _ _ (c .before .before .before .before .before .before .before .before .before .before .before .before .before .before .before .before .before .before .before .before .before .before .before .before .before .before .before .before .before .before .before .pre .0 .2)), c .before .before .before .before .before .before .before .before .before .before .inside .ensures .1)
+returns-3 c = (rw (c .before .before .before .before .before .before .before .before .before .before .before .before .before .before .before .before .before .before .place3 .given .1) (c .before .before .before .before .before .before .before .before .before .before .inside .ensures .0 _ _ (c .before .before .before .before .before .before .before .before .before .before .before .before .before .before .before .before .before .before .before .before .before .before .before .before .before .before .before .before .before .before .before .pre .0 .2)), (c .before .before .before .before .before .before .before .before .before .before .inside .ensures .1 .0, rw (c .before .before .before .before .before .before .before .before .before .before .before .before .before .before .before .before .before .before .place3 .given .1) (c .before .before .before .before .before .before .before .before .before .before .inside .ensures .1 .1)))
 
 pub transition-spec : {M : Type 1} → statement M
 transition-spec = tie.close (tie.spec
