@@ -105,7 +105,8 @@ operands w i = take (arity (kindAt w i)) (operandAt w i 0 ∷ operandAt w i 1 �
 abbrev pub nameAt : List ℕ → List ℕ → ℕ → List ℕ
 nameAt w b i = bytesAt b (operandAt w i 0) (operandAt w i 1)
 
--- whether one of k stored definitions, from definition j on, has a name
+-- whether one of k stored definitions, from definition j on, has a name: for 'name defined twice'; 'Names match without regard to
+-- ASCII case'
 unfoldable pub definedIn : List ℕ → List ℕ → List ℕ → ℕ → ℕ → Bool
 definedIn w b name j zero = false
 definedIn w b name j (suc k) = sameName (bytesAt b (offsetAt w j) (lengthAt w j)) name || definedIn w b name (j + 1) k

@@ -23,7 +23,7 @@ use Rattle.valuation.specs.Run.{stepTable, runFrom}
 abbrev pub nodeFrom : Bool → List ℕ → ℕ → Node
 nodeFrom second w i = nodeOf second (kindAt w i) (operandAt w i 0) (operandAt w i 1)
 
--- what the node x of a pair is
+-- what the node x of a pair is: 'A node is a literal, a reference or an operator.' 'The two sides are distinct'
 abbrev pub nodeAt : (v w : List ℕ) → ℕ → Node
 nodeAt v w = both (nodeFrom false v) (nodeFrom true w)
 
@@ -54,18 +54,25 @@ module _ (need : ℕ → List ℕ) (rule : ℕ → List Value → Value) where
   stepsWords [] table = table
   stepsWords (x ∷ xs) table = stepsWords xs (stepWords table x)
 
-  -- THE CONTRACT OF A STEP at x, over any table: its words, and its slots where x has one
+  -- THE CONTRACT OF A STEP at x, over any table: 'it puts into the node's slot what the rules make of them, and changes no other
+  -- slot'. Its words, and its slots where x has one
   pub record Stepped (x : ℕ) (before after : List ℕ) : Type 0 where
+    -- all words of the table: for 'changes no other slot'
     pub words : after ≡ stepWords before x
+    -- all slots: 'it puts into the node's slot what the rules make of them, and changes no other slot'
     pub slots : x * 2 + 1 < length before → slotAt after ≡ stepTable Held seen need rule (slotAt before) x
 
   -- THE CONTRACT OF A RUN over the list l from entry k on, any table and any budget: 'until the budget or the list ends, and counts each'
   pub record RunTo (l : List ℕ) (k budget : ℕ) (before after : List ℕ) (count : ℕ) : Type 0 where
+    -- 'until the budget or the list ends, and counts each'
     pub counts : count ≡ min budget (length l - k)
+    -- all words of the table: 'over the table as the step before left it'
     pub words : after ≡ stepsWords (take budget (drop k l)) before
+    -- all slots: 'it makes one step for each further entry in the list's order'
     pub slots : slotAt after ≡ runFrom Held seen need rule l k budget (slotAt before)
 
--- what a step is given: two well-formed ads, a node of theirs, and its marks, whatever they hold
+-- what a step is given: two well-formed ads, a node of theirs, and its marks, whatever they hold: for 'A step .. has a contract
+-- of its own: whatever values, right or wrong, the slots of the node's needs hold'
 pub record AtStep (v w target flag : List ℕ) (x : ℕ) : Type 0 where
   pub first-formed : Formed v
   pub second-formed : Formed w

@@ -37,7 +37,8 @@ pub record MatchReported (v b w c : List ℕ) (budget : ℕ) (table list table�
 abbrev pub smallAd : List ℕ → List ℕ → Bool
 smallAd w b = ltb (length w) adWords || ltb (length b) adBytesRoom
 
--- what the check answers as numbers: 10, or 0 and what it counted
+-- what the check answers as numbers, 10, or 0 and what it counted: 'a definition that gives this paper's number and values for
+-- each case of the enum'
 abbrev pub checkNumbers : Checked → List ℕ
 checkNumbers (WellFormed d n k) = 0 ∷ d ∷ n ∷ k ∷ []
 checkNumbers Malformed = 10 ∷ 0 ∷ 0 ∷ 0 ∷ []

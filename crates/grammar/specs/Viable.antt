@@ -7,11 +7,12 @@ use Rattle.syntax.specs.Tree.{Ad}
 use Rattle.syntax.specs.Token.{Token, Tokens, next, end, bad}
 use Rattle.syntax.specs.Grammar.{IsAd, Follows}
 
--- some more tokens make an ad of the tokens ts
+-- some more tokens make an ad of the tokens ts: for 'token does not fit the grammar'
 abbrev pub Viable : List Token → Type 0
 Viable ts = (us : List Token) × (a : Ad) × IsAd (ts ++ us) a
 
--- the first of the tokens u is at the place p, or the text ends there; where it is refused by itself, its number is k
+-- the first of the tokens u is at the place p, or the text ends there: 'its first byte is the place, for a 4 where text ends
+-- early the text's length'; where it is refused by itself, its number is k
 abbrev pub At : ℕ → ℕ → Tokens → Type 0
 At k p (next q t u) = q ≡ p
 At k p (end n) = n ≡ p
@@ -25,14 +26,16 @@ Misfit ts p (next q t u) = (q ≡ p) × ((us : List Token) (a : Ad) → IsAd (ts
 Misfit ts p (end n) = (n ≡ p) × ((a : Ad) → IsAd ts a → ⊥)
 Misfit ts p (bad k q) = ⊥
 
--- a token stands at p behind the tokens ts, and more tokens make an ad of ts and it
+-- a token stands at p behind the tokens ts, and more tokens make an ad of ts and it: the contrary of 'token does not fit the
+-- grammar'
 abbrev pub Fits : List Token → ℕ → Tokens → Type 0
 Fits ts p (next q t u) = (q ≡ p) × Viable (ts ++ t ∷ [])
 Fits ts p (end n) = ⊥
 Fits ts p (bad k q) = ⊥
 
--- A refusal k at the place p: `before` are the tokens in front of it, and `rest` is what stands there. More tokens make an ad of
--- `before`, so that none of them breaks a rule of the grammar; and a refusal 4 or 6 is at the first that continues no ad
+-- A refusal k at the place p, 'the first token that breaks a rule decides': `before` are the tokens in front of it, and `rest` is
+-- what stands there. More tokens make an ad of `before`, so that none of them breaks a rule of the grammar; and a refusal 4 or 6
+-- is at the first that continues no ad
 pub record Refusal (u : Tokens) (k p : ℕ) : Type 0 where
   pub before : List Token
   pub rest : Tokens

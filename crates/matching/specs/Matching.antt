@@ -59,7 +59,8 @@ pub record Counted (G : Graph) (count : ℕ) : Type 0 where
   pub exact : (j : ℕ) → j < count → ¬ (Ended G (transitions G j (first G)))
   pub small : count ≤ 16 * (G .size * G .size)
 
--- THE MATCH OF TWO WELL-FORMED ADS within their rooms: table and list are what its 4,096 words of values and 2,048 entries hold after it.
+-- THE MATCH OF TWO WELL-FORMED ADS within their rooms: 'A match is this run at k = 0 from a blank table, its count being the
+-- steps, and no value is worked out elsewhere.' table and list are its 4,096 words of values and 2,048 entries after it.
 pub record Match (v b w c : List ℕ) (budget : ℕ) (table list : List ℕ) (r : Outcome) : Type 0 where
   -- 'exactly the circular references and the list'
   pub circular : ℕ → Bool

@@ -78,6 +78,7 @@ valueIn [] i = Undefined
 valueIn (v ∷ vs) zero = v
 valueIn (v ∷ vs) (suc i) = valueIn vs i
 
--- the rule of a node, of the values of all its needs
+-- the rule of a node, of the values of all its needs: 'A node's value is what the rules make of the values of its needs, no table
+-- read.'
 abbrev pub ruleOf : List ℕ → List ℕ → Node → List Value → Value
 ruleOf first second node vs = applied first second node (valueIn vs 0) (valueIn vs 1) (valueIn vs 2)

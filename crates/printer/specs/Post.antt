@@ -15,15 +15,17 @@ use Rattle.well_formed.specs.Decode.{got, leafAt}
 use Rattle.well_formed.specs.Laws.Leaves.{Run}
 use Rattle.well_formed.specs.Laws.Definitions.{Table}
 
--- how a node of kind k binds
+-- how a node of kind k binds: 'Binding, loosest first'; the kinds are those of docs/LAYOUT.md
 unfoldable pub bindsKind : ℕ → ℕ
 bindsKind k = cond (ltb k 9) 8 (cond (ltb k 12) 7 (cond (eqb k 12) 0 (bindsOf (binaryOf k))))
 
--- an expression's text where one that binds at k or tighter can stand
+-- an expression's text where one that binds at k or tighter can stand: 'Parentheses only where the tree would otherwise read
+-- differently'
 abbrev pub wrapped : ℕ → Expr → List ℕ
 wrapped k e = wrap k (binds e) (printed e)
 
--- a tree has its last node at i, and its text t is near `at`
+-- what a writer of a tree is given: the tree has its last node at i, and its text t is near `at`: for 'the printer recurses over
+-- child nodes, each an operand of its parent'
 pub record Fits (t : Expr → List ℕ) (w b : List ℕ) (i at : ℕ) : Type 0 where
   pub words : 4864 ≤ length w
   pub node : i < 1024
@@ -33,11 +35,13 @@ pub record Fits (t : Expr → List ℕ) (w b : List ℕ) (i at : ℕ) : Type 0 w
   pub stands : Run w b first i byte tree
   pub near : Near at (t tree)
 
--- the text t of the tree that has its last node at i is written
+-- what it ensures: the text t of the tree that has its last node at i is written: for 'the printer recurses over child nodes,
+-- each an operand of its parent'
 abbrev pub Written : (Expr → List ℕ) → List ℕ → List ℕ → ℕ → ℕ → List ℕ → List ℕ → ℕ → Type 0
 Written t w b i at o o′ r = (e : Expr) (s k : ℕ) → Run w b s i k e → Puts (t e) o at o′ r
 
--- the same of a literal or a reference
+-- what the writer of a literal or a reference is given: for 'keywords in lower case', 'Numbers without idle leading zeros' and
+-- 'no blank in `other.name`'
 pub record LeafFits (w b : List ℕ) (i at : ℕ) : Type 0 where
   pub words : 4864 ≤ length w
   pub node : i < 1024
@@ -46,10 +50,12 @@ pub record LeafFits (w b : List ℕ) (i at : ℕ) : Type 0 where
   pub found : leafAt w b i byte ≡ got tree
   pub near : Near at (printed tree)
 
+-- what it ensures: for 'keywords in lower case', 'Numbers without idle leading zeros' and 'no blank in `other.name`'
 abbrev pub LeafWritten : List ℕ → List ℕ → ℕ → ℕ → List ℕ → List ℕ → ℕ → Type 0
 LeafWritten w b i at o o′ r = (e : Expr) (k : ℕ) → leafAt w b i k ≡ got e → Puts (printed e) o at o′ r
 
--- a definition has the number j, and its text is near `at`
+-- what the writer of a definition is given: it has the number j, and its text is near `at`: for 'definitions as `name =
+-- expression`'
 pub record RowFits (w b : List ℕ) (j at : ℕ) : Type 0 where
   pub words : 4864 ≤ length w
   pub few : j < 256
@@ -60,10 +66,11 @@ pub record RowFits (w b : List ℕ) (j at : ℕ) : Type 0 where
   pub table : Table w b j node byte (first ∷ others)
   pub near : Near at (definitionText first)
 
+-- what it ensures: the text of definition j is written: for 'definitions as `name = expression`'
 abbrev pub RowWritten : List ℕ → List ℕ → ℕ → ℕ → List ℕ → List ℕ → ℕ → Type 0
 RowWritten w b j at o o′ r = (d : Definition) (a : Ad) (n k : ℕ) → Table w b j n k (d ∷ a) → Puts (definitionText d) o at o′ r
 
--- the definitions from j up to d
+-- what the writer of the definitions from j up to d is given: for 'definitions as `name = expression` joined by `; `'
 pub record TableFits (w b : List ℕ) (j d at : ℕ) : Type 0 where
   pub words : 4864 ≤ length w
   pub few : d ≤ 256
@@ -74,9 +81,11 @@ pub record TableFits (w b : List ℕ) (j d at : ℕ) : Type 0 where
   pub count : d ≡ j + length ad
   pub near : Near at (definitionsText ad)
 
+-- what it ensures: their text is written: for 'definitions as `name = expression` joined by `; `'
 abbrev pub TableWritten : List ℕ → List ℕ → ℕ → ℕ → ℕ → List ℕ → List ℕ → ℕ → Type 0
 TableWritten w b j d at o o′ r = (a : Ad) (n k : ℕ) → Table w b j n k a → d ≡ j + length a → Puts (definitionsText a) o at o′ r
 
--- the whole ad is written at the front
+-- the whole ad is written at the front: for 'The text is handed back as the front part of the caller's output; the bytes after it
+-- stay.'
 abbrev pub AdWritten : List ℕ → List ℕ → ℕ → List ℕ → List ℕ → Type 0
 AdWritten w b d o o′ = (a : Ad) → Table w b 0 0 0 a → d ≡ length a → o′ ≡ sets o 0 (printedAd a)

@@ -13,12 +13,12 @@ use Rattle.well_formed.specs.WellFormed.{Holds}
 use Rattle.printer.specs.declared.Printed.{Printed}
 use Rattle.printer.specs.declared.Printed.the-variants.{Text, Refused}
 
--- the memory of an ad is as large as it must be
+-- the memory of an ad is as large as it must be, and no 'lent room smaller than above'
 pub record Roomy (w b : List ℕ) : Type 0 where
   pub words : adWords ≤ length w
   pub bytes : adBytesRoom ≤ length b
 
--- the room's front part of the memory holds the ad a
+-- the room's front part of the memory holds the ad a: 'exactly this content, zeros included'
 abbrev pub Stored : List ℕ → List ℕ → Ad → Type 0
 Stored w b a = Holds (take adWords w) (take adBytesRoom b) a
 

@@ -21,7 +21,7 @@ use Rattle.round_trip.specs.Printed.{exprTokens, parentheses}
 use Rattle.round_trip.specs.Laws.Parentheses.{append}
 use Rattle.round_trip.specs.Laws.RoundTrip.{read-back}
 
--- an ad with one definition
+-- an ad with one definition, to print and read back: for 'definitions `name = expression`'
 abbrev only : Expr → Ad
 only e = record { name = bytes "a"; expression = e } ∷ []
 
@@ -48,10 +48,11 @@ deep e n h k b = omega (arith, b .shallow)
 
 -- ---- sums
 
+-- a term of the sums: for the slip 'a sum of 100 terms reads back as refusal 6'
 abbrev one : Expr
 one = literal (integer 1)
 
--- a sum of n + 1 terms
+-- a sum of n + 1 terms: for the slip 'a sum of 100 terms reads back as refusal 6'
 unfoldable pub sum : ℕ → Expr
 sum zero = one
 sum (suc n) = binary Add (sum n) one
@@ -76,7 +77,7 @@ term-plain : (ts : List Token) → parentheses ts ≡ 0 → parentheses (ts ++ o
 unfolding parentheses
 term-plain ts h = omega (arith, append ts (operator Add ∷ constant (integer 1) ∷ []))
 
--- A SUM PRINTS WITHOUT PARENTHESES, however many terms it has
+-- A SUM PRINTS WITHOUT PARENTHESES, however many terms it has: 'Parentheses only where the tree would otherwise read differently'
 pub sum-plain : (n : ℕ) → parentheses (exprTokens (sum n)) ≡ 0
 unfolding sum exprTokens binds
 sum-plain zero = unfold parentheses in refl
@@ -89,20 +90,20 @@ sum-length zero = refl
 sum-length (suc zero) = refl
 sum-length (suc (suc n)) = length-append (printed (sum (suc n))) _ ∙ omega (arith, sum-length (suc n))
 
--- AND READS BACK: up to 512 terms, which are 1,023 nodes
+-- AND READS BACK: up to 512 terms, which are 1,023 nodes; against the slip 'a sum of 100 terms reads back as refusal 6'
 pub sum-read-back : (n : ℕ) → n < 512 → read (printedAd (only (sum n))) ≡ accepted (only (sum n))
 sum-read-back n h = read-back (only (sum n)) (only-bounded (sum n) (omega (arith, sum-size n)) (sum-written n) (omega (arith, sum-level n))) fits
   where
     fits : length (printedAd (only (sum n))) ≤ 16384
     fits = unfold printedAd definitionsText bytes in omega (arith, length-append (printed (sum n)) (93 ∷ []), sum-length n)
 
--- a sum of 1,000 terms has no parentheses either, and is not read: it has 1,999 nodes
+-- a sum of 1,000 terms has no parentheses either, and is not read, as it has 1,999 nodes: '1,024 nodes; .. one more is refused'
 pub sum-1000-large : Bounded (only (sum 999)) → ⊥
 sum-1000-large h = let k : size (sum 999) + 0 ≤ 1024 = (unfold nodes in h .within .few-nodes) in omega (arith, sum-size 999)
 
 -- ---- levels
 
--- n operators of one operand before a name
+-- n operators of one operand before a name: for 'the operand of a unary operator .. one level deeper'
 unfoldable pub chain : ℕ → Expr
 chain zero = reference own (bytes "a")
 chain (suc n) = unary Minus (chain n)
@@ -123,7 +124,7 @@ chain-level zero = refl
 chain-level (suc zero) = refl
 chain-level (suc (suc n)) = omega (arith, chain-level (suc n))
 
--- A CHAIN OF 64 UNARY OPERATORS PRINTS AND READS BACK
+-- A CHAIN OF 64 UNARY OPERATORS PRINTS, with no blank: 'none after a unary one'
 pub chain-printed : printedAd (only (chain 64)) ≡ bytes "[a = " ++ (replicate 64 45 ++ bytes "a]")
 unfolding chain printedAd definitionsText printed binds referenceText unaryText bytes
 chain-printed = refl
@@ -132,6 +133,7 @@ chain-length : length (printedAd (only (chain 64))) ≤ 16384
 unfolding bytes
 chain-length = rw chain-printed (omega arith)
 
+-- AND READS BACK: 'level 64. Each is itself accepted'
 pub chain-read-back : read (printedAd (only (chain 64))) ≡ accepted (only (chain 64))
 chain-read-back =
     read-back (only (chain 64)) (only-bounded (chain 64) (omega (arith, chain-size 64)) (chain-written 64) (omega (arith, chain-level 64))) chain-length
@@ -140,7 +142,8 @@ chain-read-back =
 pub chain-65-deep : Bounded (only (chain 65)) → ⊥
 chain-65-deep h = deep (chain 65) 65 (chain-level 65) (omega arith) h
 
--- a sum of n + 1 terms that groups to the right, each pair in parentheses but the last
+-- a sum of n + 1 terms that groups to the right, each pair in parentheses but the last: for 'The inside of parentheses, .. one
+-- level deeper'
 unfoldable pub nest : ℕ → Expr
 nest zero = one
 nest (suc n) = binary Add one (nest n)
@@ -150,20 +153,23 @@ unfolding nest levelOf binds
 nest-level zero = refl
 nest-level (suc n) = omega (arith, nest-level n)
 
--- A TREE WHOSE PRINT WOULD REACH LEVEL 65 BY PARENTHESES IS THE TREE OF NO TEXT
+-- A TREE WHOSE PRINT WOULD REACH LEVEL 65 BY PARENTHESES IS THE TREE OF NO TEXT: 'levels of its printed text included'
 pub nest-66-deep : Bounded (only (nest 66)) → ⊥
 nest-66-deep h = deep (nest 66) 65 (nest-level 65) (omega arith) h
 
 -- ---- a pair taken away
 
--- `(1 + 1) * 1` as printed, and without its pair: this does not read as the same tree (`pair-needed`)
+-- the tree of `(1 + 1) * 1`, whose pair is needed: for 'Parentheses only where the tree would otherwise read differently'
 abbrev product : Expr
 product = binary Multiply (binary Add one one) one
 
+-- as printed: 'Parentheses only where the tree would otherwise read differently'
 pub product-printed : printedAd (only product) ≡ bytes "[a = (1 + 1) * 1]"
 unfolding printedAd definitionsText printed binds literalText binaryText digits bytes
 product-printed = refl
 
+-- without its pair: this does not read as the same tree (`pair-needed`), for 'Parentheses only where the tree would otherwise
+-- read differently'
 pub product-without-pair : DefinitionsWithoutPair (only product) (bytes "a = 1 + 1 * 1")
 unfolding printed binds literalText binaryText digits bytes
 product-without-pair = let lt : binds (binary Add one one) < 6 = omega arith in pair-in-last (pair-left (pair-here lt))

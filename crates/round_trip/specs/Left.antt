@@ -18,7 +18,7 @@ pub record Leaves (s w b : List ℕ) : Type 0 where
   pub words : w ≡ storedWords tree
   pub bytes : b ≡ storedBytes tree
 
--- the check's answer is no refusal
+-- the check's answer is no refusal: not 'stored numbers are no well-formed tree within the bounds above'
 abbrev pub Passes : Checked → Type 0
 Passes (WellFormed d n k) = Unit {0}
 Passes Malformed = ⊥

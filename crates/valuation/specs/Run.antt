@@ -27,12 +27,17 @@ module _ {A S : Type 0} (held : A → S) (seen : S → A) (need : ℕ → List �
   -- What a run comes to, over any table: 'This is one claim about the whole run, and not one for each step.' The slot of each entry
   -- worked out holds what the rules make of what the slots of its needs then hold, and 'Nothing else writes the table meanwhile'.
   pub record Settled (l : List ℕ) (k budget : ℕ) (before after : ℕ → S) : Type 0 where
+    -- an entry worked out: 'it puts into the node's slot what the rules make of them'
     pub worked : (x : ℕ) → x ∈ take budget (drop k l) → after x ≡ held (rule x (map (λ y. seen (after y)) (need x)))
+    -- any other node: 'changes no other slot'
     pub others : (x : ℕ) → ¬ (x ∈ take budget (drop k l)) → after x ≡ before x
-    -- what an entry needs stands before it in the list
+    -- what an entry needs stands before it in the list: 'To enter a node not yet in the list is to enter what it needs, .. and
+    -- then at once the node itself'
     pub needed : (x y : ℕ) → x ∈ take budget (drop k l) → y ∈ need x → (y ∈ take k l) ⊎ (y ∈ take budget (drop k l))
 
   -- What a match's run comes to: 'A match is this run at k = 0 from a blank table'; 'slots not worked out are blank'
   pub record Ran (blank : S) (l : List ℕ) (budget : ℕ) (after : ℕ → S) : Type 0 where
+    -- 'A node's value is what the rules make of the values of its needs'
     pub holds : (x : ℕ) → x ∈ take budget l → (v : A) × Gives need rule x v × (after x ≡ held v)
+    -- 'slots not worked out are blank'
     pub blanks : (x : ℕ) → ¬ (x ∈ take budget l) → after x ≡ blank

@@ -14,7 +14,8 @@ use Rattle.ad.specs.Layout.{adBytes, adWords, adBytesRoom, storedWords, storedB
 use Rattle.well_formed.specs.declared.Checked.{Checked}
 use Rattle.well_formed.specs.declared.Checked.the-variants.{WellFormed, Malformed}
 
--- every name and literal of an expression is one that a text can write
+-- every name and literal of an expression is one that a text can write: for 'reading some text, were its length not bounded,
+-- would leave exactly this content'
 unfoldable pub isWritable : Expr → Bool
 isWritable (literal l) = isLiteral l
 isWritable (reference s w) = isName w
@@ -22,12 +23,13 @@ isWritable (unary u a) = isWritable a
 isWritable (binary j a b) = isWritable a && isWritable b
 isWritable (conditional a b c) = isWritable a && (isWritable b && isWritable c)
 
--- and every one of an ad
+-- and every one of an ad: for 'reading some text, were its length not bounded, would leave exactly this content'
 unfoldable pub areWritable : Ad → Bool
 areWritable [] = true
 areWritable (d ∷ ds) = isName (d .name) && (isWritable (d .expression) && areWritable ds)
 
--- 'a well-formed tree within the bounds above, levels of its printed text included, text length not': the trees that some text reads as
+-- the trees that some text reads as; of any other 'stored numbers are no well-formed tree within the bounds above, levels of its
+-- printed text included, text length not'
 pub record Bounded (a : Ad) : Type 0 where
   -- '256 definitions', '1,024 nodes', no 'name defined twice'
   pub within : Within a
@@ -43,11 +45,13 @@ pub record Holds (w b : List ℕ) (a : Ad) : Type 0 where
   pub words : w ≡ storedWords a
   pub bytes : b ≡ storedBytes a
 
--- a well-formed ad comes with how many definitions and nodes it has, and how long it prints
+-- a well-formed ad comes with how many definitions and nodes it has, and how long it prints; else 'stored numbers are no
+-- well-formed tree within the bounds above'
 abbrev pub AnswersRoom : List ℕ → List ℕ → Checked → Type 0
 AnswersRoom w b (WellFormed d n k) = (a : Ad) × Holds w b a × (d ≡ length a) × (n ≡ nodes a) × (k ≡ length (printedAd a))
 AnswersRoom w b Malformed = (a : Ad) → ¬ (Holds w b a)
 
--- THE CONTRACT OF `check`, over any memory: of longer memory the room's front part counts, and shorter memory holds no ad
+-- THE CONTRACT OF `check`, over any memory: of longer memory the room's front part counts, and shorter memory holds no ad. Its
+-- refusal is where 'stored numbers are no well-formed tree within the bounds above'
 abbrev pub Answers : List ℕ → List ℕ → Checked → Type 0
 Answers w b r = AnswersRoom (take adWords w) (take adBytesRoom b) r

@@ -361,8 +361,8 @@ module _ (v b w c : List ℕ) (f : Formed v) (g : Formed w) where
           ∙ ap (λ (z : ℕ). Finished (isTrue (h .first-requirement) && isTrue (h .second-requirement)) (rankOf (h .second-rank)) z (length (m′ .order)) (m′ .count)) (ap rankOf first-rank ∙ rank-turned (h .first-rank))
           ∙ ap (λ (z : ℕ). Finished (isTrue (h .first-requirement) && isTrue (h .second-requirement)) (rankOf (h .second-rank)) (rankOf (h .first-rank)) z (m′ .count)) as-long
 
-    -- EXCHANGE: 'With the two ads exchanged a finished match keeps its verdict and the ranks change places'; it takes as many steps, and
-    -- one that is not finished is not finished then
+    -- EXCHANGE: with the two ads exchanged a finished match keeps its verdict and the ranks change places; it takes as many
+    -- steps, and one that is not finished is not finished then
     pub exchange : Exchanged o o′
     exchange = go (decLt budget (length (m .order)))
       where
