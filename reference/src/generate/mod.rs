@@ -4,6 +4,7 @@ pub mod ads;
 pub mod coverage;
 pub mod damage;
 pub mod edges;
+pub mod matches;
 pub mod spelling;
 pub mod tables;
 
@@ -64,6 +65,7 @@ impl Iterator for Generator {
         Some(match turn {
             0 => printed_ad(rng),
             1 => spelled_ad(rng),
+            2 if rng.chance(50) => pair(rng, "pair made for matching", matches::match_pair),
             2 => pair(rng, "small pair", |rng| {
                 (ads::small_ad(rng), ads::small_ad(rng))
             }),
