@@ -36,6 +36,13 @@ extern "C" {
         bytes_length: usize,
         answer: *mut [u64; 3],
     );
+    fn classad_check(
+        words: *const u64,
+        words_length: usize,
+        bytes: *const u8,
+        bytes_length: usize,
+        answer: *mut [u64; 4],
+    );
 }
 
 pub fn binary(first: &[u8], second: &[u8], kind: u64, operands: &[u64], result: &mut [u64]) {
@@ -94,6 +101,19 @@ pub fn read(text: &[u8], words: &mut [u64], bytes: &mut [u8], answer: &mut [u64;
             words.as_mut_ptr(),
             words.len(),
             bytes.as_mut_ptr(),
+            bytes.len(),
+            answer,
+        );
+    }
+}
+
+pub fn check(words: &[u64], bytes: &[u8], answer: &mut [u64; 4]) {
+    // Safety: as above.
+    unsafe {
+        classad_check(
+            words.as_ptr(),
+            words.len(),
+            bytes.as_ptr(),
             bytes.len(),
             answer,
         );

@@ -1,11 +1,18 @@
 //! Compares the proved library with the reference on seeded inputs. Case number `index` of
 //! a run depends on the seed and the index alone, so that each can be repeated by itself.
 
+mod checking;
+mod damage;
+mod decode;
 mod layout;
 mod library;
+mod memory;
 mod reading;
 mod report;
+mod sample;
+mod shrink;
 mod slot;
+mod stored;
 mod timing;
 mod values;
 
@@ -14,9 +21,10 @@ use report::Report;
 use std::process::ExitCode;
 
 const USAGE: &str = "usage: tests/run NAME SEED COUNT [FROM]
-       tests/run timing COUNT
-NAME is values or reading.
-COUNT cases of SEED, from number FROM on (0 without it); each text COUNT times.
+       tests/run timing WHAT COUNT
+NAME is values, reading or checking.
+COUNT cases of SEED, from number FROM on (0 without it).
+WHAT is reading; each text COUNT times.
 ";
 
 /// All compared and no difference; some difference, or nothing compared; a wrong command line.
@@ -51,8 +59,8 @@ impl Cases {
 
 fn main() -> ExitCode {
     let words: Vec<String> = std::env::args().skip(1).collect();
-    if let Some(count) = timing_count(&words) {
-        print!("{}", timing::run(count));
+    if let Some(text) = timed(&words) {
+        print!("{text}");
         return ExitCode::from(SAME);
     }
     let Some((name, Some(cases))) = words
@@ -65,6 +73,7 @@ fn main() -> ExitCode {
     let report = match name.as_str() {
         "values" => values::run(&cases),
         "reading" => reading::run(&cases),
+        "checking" => checking::run(&cases),
         _ => {
             eprint!("{USAGE}");
             return ExitCode::from(FAULT);
@@ -73,9 +82,9 @@ fn main() -> ExitCode {
     finish(&report)
 }
 
-fn timing_count(words: &[String]) -> Option<u64> {
+fn timed(words: &[String]) -> Option<String> {
     match words {
-        [name, count] if name == "timing" => count.parse().ok(),
+        [timing, name, count] if timing == "timing" => timing::run(name, count.parse().ok()?),
         _ => None,
     }
 }

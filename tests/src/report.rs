@@ -132,3 +132,28 @@ impl Report {
         text
     }
 }
+
+/// A line for the first place in which memory differs.
+pub fn first_difference<T: PartialEq + std::fmt::Debug>(
+    name: &str,
+    got: &[T],
+    expected: &[T],
+) -> String {
+    match (0..got.len()).find(|&at| got[at] != expected[at]) {
+        None => String::new(),
+        Some(at) => format!(
+            "{name} {at}: library {:?}, reference {:?}\n",
+            got[at], expected[at]
+        ),
+    }
+}
+
+/// Bytes for a reader, at most so many: those that are no printable ASCII as `\xNN`.
+pub fn plain(bytes: &[u8], most: usize) -> String {
+    let shown = bytes.iter().take(most).map(|&byte| match byte {
+        0x20..=0x7E => char::from(byte).to_string(),
+        _ => format!("\\x{byte:02x}"),
+    });
+    let more = if bytes.len() > most { ".." } else { "" };
+    shown.collect::<String>() + more
+}

@@ -1,13 +1,13 @@
 //! How long reading takes, by the library and by the reference, on texts that are hard in
 //! different ways.
 
+use super::{medians, micros};
 use crate::layout::Stored;
 use crate::library;
 use reference::bounds;
 use reference::read::read;
 use std::fmt::Write;
 use std::hint::black_box;
-use std::time::{Duration, Instant};
 
 /// The median of `count` readings of each text.
 pub fn run(count: u64) -> String {
@@ -18,17 +18,22 @@ pub fn run(count: u64) -> String {
     for (name, bytes) in texts() {
         let mut memory = Stored::zero();
         let mut answer = [0; 3];
-        let proved = median(count, || {
-            library::read(
-                black_box(&bytes),
-                &mut memory.words,
-                &mut memory.bytes,
-                &mut answer,
-            )
-        });
-        let second = median(count, || {
-            let _ = black_box(read(black_box(&bytes)));
-        });
+        let [proved, second] = medians(
+            count,
+            [
+                &mut || {
+                    library::read(
+                        black_box(&bytes),
+                        &mut memory.words,
+                        &mut memory.bytes,
+                        &mut answer,
+                    )
+                },
+                &mut || {
+                    let _ = black_box(read(black_box(&bytes)));
+                },
+            ],
+        );
         writeln!(
             text,
             "{name:<34} {:>6} {:>11} {:>8.1} us {:>8.1} us {:>6.2}",
@@ -43,23 +48,7 @@ pub fn run(count: u64) -> String {
     text
 }
 
-fn median(count: u64, mut call: impl FnMut()) -> Duration {
-    let mut times: Vec<Duration> = (0..count.max(1))
-        .map(|_| {
-            let start = Instant::now();
-            call();
-            start.elapsed()
-        })
-        .collect();
-    times.sort();
-    times[times.len() / 2]
-}
-
-fn micros(time: Duration) -> f64 {
-    time.as_nanos() as f64 / 1_000.0
-}
-
-fn texts() -> Vec<(&'static str, Vec<u8>)> {
+pub fn texts() -> Vec<(&'static str, Vec<u8>)> {
     vec![
         ("no ad: one byte", b"x".to_vec()),
         ("small ad", small()),
