@@ -43,6 +43,22 @@ extern "C" {
         bytes_length: usize,
         answer: *mut [u64; 4],
     );
+    fn classad_match(
+        first_words: *const u64,
+        first_words_length: usize,
+        first_bytes: *const u8,
+        first_bytes_length: usize,
+        second_words: *const u64,
+        second_words_length: usize,
+        second_bytes: *const u8,
+        second_bytes_length: usize,
+        table: *mut u64,
+        table_length: usize,
+        list: *mut u64,
+        list_length: usize,
+        budget: u16,
+        answer: *mut [u64; 7],
+    );
 }
 
 pub fn binary(first: &[u8], second: &[u8], kind: u64, operands: &[u64], result: &mut [u64]) {
@@ -115,6 +131,36 @@ pub fn check(words: &[u64], bytes: &[u8], answer: &mut [u64; 4]) {
             words.len(),
             bytes.as_ptr(),
             bytes.len(),
+            answer,
+        );
+    }
+}
+
+/// The words and bytes of both ads.
+pub fn matching(
+    words: [&[u64]; 2],
+    bytes: [&[u8]; 2],
+    table: &mut [u64],
+    list: &mut [u64],
+    budget: u16,
+    answer: &mut [u64; 7],
+) {
+    // Safety: as above.
+    unsafe {
+        classad_match(
+            words[0].as_ptr(),
+            words[0].len(),
+            bytes[0].as_ptr(),
+            bytes[0].len(),
+            words[1].as_ptr(),
+            words[1].len(),
+            bytes[1].as_ptr(),
+            bytes[1].len(),
+            table.as_mut_ptr(),
+            table.len(),
+            list.as_mut_ptr(),
+            list.len(),
+            budget,
             answer,
         );
     }

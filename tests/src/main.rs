@@ -6,7 +6,9 @@ mod damage;
 mod decode;
 mod layout;
 mod library;
+mod matching;
 mod memory;
+mod pairs;
 mod reading;
 mod report;
 mod sample;
@@ -22,9 +24,9 @@ use std::process::ExitCode;
 
 const USAGE: &str = "usage: tests/run NAME SEED COUNT [FROM]
        tests/run timing WHAT COUNT
-NAME is values, reading or checking.
+NAME is values, reading, checking or matching.
 COUNT cases of SEED, from number FROM on (0 without it).
-WHAT is reading; each text COUNT times.
+WHAT is reading or matching; each text or pair COUNT times.
 ";
 
 /// All compared and no difference; some difference, or nothing compared; a wrong command line.
@@ -74,6 +76,7 @@ fn main() -> ExitCode {
         "values" => values::run(&cases),
         "reading" => reading::run(&cases),
         "checking" => checking::run(&cases),
+        "matching" => matching::run(&cases),
         _ => {
             eprint!("{USAGE}");
             return ExitCode::from(FAULT);

@@ -1,6 +1,7 @@
 //! A slot of the table as two words, kind and load, written and read here by
 //! docs/LAYOUT.md, apart from the library's own code.
 
+use crate::layout::Stored;
 use reference::value::{StringValue, Value};
 
 pub type Words = [u64; 2];
@@ -76,6 +77,25 @@ pub fn value(words: Words, memories: &[Vec<u8>; 2], node: usize) -> Option<Value
 
 /// The words of the reference's answer. A String is the operand that it names.
 pub fn words(value: Option<Value>, operands: &[Words]) -> Words {
+    words_with(value, |string| {
+        let [_, load] = operands[string.node];
+        Place::of(load)
+    })
+}
+
+/// The words of a value of a match. A String is the literal that it names, in its ad.
+pub fn words_in(value: Option<Value>, ads: &[Stored; 2]) -> Words {
+    words_with(value, |string| {
+        let node = &ads[string.side].words[4 * string.node..4 * string.node + 4];
+        Place {
+            side: string.side,
+            offset: node[1] as u16,
+            length: node[2] as u16,
+        }
+    })
+}
+
+fn words_with(value: Option<Value>, place: impl Fn(StringValue) -> Place) -> Words {
     match value {
         None => [BLANK, 0],
         Some(Value::Undefined) => [UNDEFINED, 0],
@@ -83,10 +103,7 @@ pub fn words(value: Option<Value>, operands: &[Words]) -> Words {
         Some(Value::Boolean(value)) => [BOOLEAN, u64::from(value)],
         Some(Value::Integer(value)) => [INTEGER, u64::from(value as u32)],
         Some(Value::Real(value)) => [REAL, value.to_bits()],
-        Some(Value::String(value)) => {
-            let [_, load] = operands[value.node];
-            [STRING, Place::of(load).word()]
-        }
+        Some(Value::String(value)) => [STRING, place(value).word()],
     }
 }
 

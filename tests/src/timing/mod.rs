@@ -1,13 +1,15 @@
 //! How long the library and the reference take, in the same run.
 
+mod matching;
 mod reading;
 
 use std::time::{Duration, Instant};
 
-/// The median of `count` calls of each text; none for a name that is no timing's.
+/// The median of `count` calls of each text or pair; none for a name that is no timing's.
 pub fn run(name: &str, count: u64) -> Option<String> {
     match name {
         "reading" => Some(reading::run(count)),
+        "matching" => Some(matching::run(count)),
         _ => None,
     }
 }
