@@ -43,6 +43,30 @@ extern "C" {
         bytes_length: usize,
         answer: *mut [u64; 4],
     );
+    fn classad_print(
+        words: *const u64,
+        words_length: usize,
+        bytes: *const u8,
+        bytes_length: usize,
+        output: *mut u8,
+        output_length: usize,
+        answer: *mut [u64; 2],
+    );
+    fn classad_dependencies(
+        first_words: *const u64,
+        first_words_length: usize,
+        first_bytes: *const u8,
+        first_bytes_length: usize,
+        second_words: *const u64,
+        second_words_length: usize,
+        second_bytes: *const u8,
+        second_bytes_length: usize,
+        flags: *mut u64,
+        flags_length: usize,
+        list: *mut u64,
+        list_length: usize,
+        answer: *mut [u64; 3],
+    );
     fn classad_match(
         first_words: *const u64,
         first_words_length: usize,
@@ -136,7 +160,49 @@ pub fn check(words: &[u64], bytes: &[u8], answer: &mut [u64; 4]) {
     }
 }
 
+pub fn print(words: &[u64], bytes: &[u8], output: &mut [u8], answer: &mut [u64; 2]) {
+    // Safety: as above.
+    unsafe {
+        classad_print(
+            words.as_ptr(),
+            words.len(),
+            bytes.as_ptr(),
+            bytes.len(),
+            output.as_mut_ptr(),
+            output.len(),
+            answer,
+        );
+    }
+}
+
 /// The words and bytes of both ads.
+pub fn dependencies(
+    words: [&[u64]; 2],
+    bytes: [&[u8]; 2],
+    flags: &mut [u64],
+    list: &mut [u64],
+    answer: &mut [u64; 3],
+) {
+    // Safety: as above.
+    unsafe {
+        classad_dependencies(
+            words[0].as_ptr(),
+            words[0].len(),
+            bytes[0].as_ptr(),
+            bytes[0].len(),
+            words[1].as_ptr(),
+            words[1].len(),
+            bytes[1].as_ptr(),
+            bytes[1].len(),
+            flags.as_mut_ptr(),
+            flags.len(),
+            list.as_mut_ptr(),
+            list.len(),
+            answer,
+        );
+    }
+}
+
 pub fn matching(
     words: [&[u64]; 2],
     bytes: [&[u8]; 2],

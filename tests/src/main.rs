@@ -4,11 +4,13 @@
 mod checking;
 mod damage;
 mod decode;
+mod dependencies;
 mod layout;
 mod library;
 mod matching;
 mod memory;
 mod pairs;
+mod printing;
 mod reading;
 mod report;
 mod sample;
@@ -24,9 +26,9 @@ use std::process::ExitCode;
 
 const USAGE: &str = "usage: tests/run NAME SEED COUNT [FROM]
        tests/run timing WHAT COUNT
-NAME is values, reading, checking or matching.
+NAME is values, reading, checking, printing, dependencies or matching.
 COUNT cases of SEED, from number FROM on (0 without it).
-WHAT is reading or matching; each text or pair COUNT times.
+WHAT is reading, printing or matching; each text or pair COUNT times.
 ";
 
 /// All compared and no difference; some difference, or nothing compared; a wrong command line.
@@ -76,6 +78,8 @@ fn main() -> ExitCode {
         "values" => values::run(&cases),
         "reading" => reading::run(&cases),
         "checking" => checking::run(&cases),
+        "printing" => printing::run(&cases),
+        "dependencies" => dependencies::run(&cases),
         "matching" => matching::run(&cases),
         _ => {
             eprint!("{USAGE}");

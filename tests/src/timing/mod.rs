@@ -1,6 +1,7 @@
 //! How long the library and the reference take, in the same run.
 
 mod matching;
+mod printing;
 mod reading;
 
 use std::time::{Duration, Instant};
@@ -9,6 +10,7 @@ use std::time::{Duration, Instant};
 pub fn run(name: &str, count: u64) -> Option<String> {
     match name {
         "reading" => Some(reading::run(count)),
+        "printing" => Some(printing::run(count)),
         "matching" => Some(matching::run(count)),
         _ => None,
     }

@@ -1,0 +1,182 @@
+//! Circular references and the list of two ads, against the reference's plain reachability
+//! and recursive list.
+
+use crate::layout::Stored;
+use crate::library;
+use crate::matching::list_words;
+use crate::memory::{noise_words, size};
+use crate::pairs::{Pair, FAMILIES};
+use crate::report::{first_difference, Report, Table};
+use crate::shrink::shrunk_samples;
+use crate::stored::Samples;
+use crate::Cases;
+use reference::bounds::{self, SLOTS};
+use reference::graph;
+use reference::rng::Rng;
+use reference::tree::Ad;
+
+const ANSWERS: [&str; 4] = ["loops", "no loop", "1", "10"];
+
+pub fn run(cases: &Cases) -> Report {
+    let answers = Table::new("compared, by answer", &FAMILIES, &ANSWERS);
+    let mut report = Report::new("dependencies", cases.seed, vec![answers]);
+    let stored = Samples::new();
+    for (index, mut rng) in cases.each() {
+        let (family, pair) = Pair::draw(&mut rng, &stored);
+        let call = Call::draw(&mut rng, pair);
+        let (got, expected) = both(&call);
+        let same = got == expected;
+        report.compare(index, family, column(&expected), same, || describe(&call));
+    }
+    report
+}
+
+fn column(expected: &Outcome) -> usize {
+    match expected.answer[0] {
+        0 => usize::from(!expected.flags[..SLOTS].contains(&1)),
+        1 => 2,
+        _ => 3,
+    }
+}
+
+/// Two ads in memory, the sizes of flags and list, and the seed of their noise.
+#[derive(Clone)]
+struct Call {
+    pair: Pair,
+    flags: usize,
+    list: usize,
+    noise: u64,
+}
+
+impl Call {
+    fn draw(rng: &mut Rng, pair: Pair) -> Call {
+        let short = rng.below(100);
+        Call {
+            pair,
+            flags: size(rng, SLOTS, short <= 1),
+            list: size(rng, SLOTS, short == 1 || short == 2),
+            noise: rng.bits(),
+        }
+    }
+
+    fn rooms(&self) -> [Vec<u64>; 2] {
+        [
+            noise_words(self.noise, self.flags),
+            noise_words(!self.noise, self.list),
+        ]
+    }
+}
+
+/// What a call answers and leaves: refusal, transitions and the list's length.
+#[derive(PartialEq, Eq)]
+struct Outcome {
+    answer: [u64; 3],
+    flags: Vec<u64>,
+    list: Vec<u64>,
+    ads: [Stored; 2],
+}
+
+fn both(call: &Call) -> (Outcome, Outcome) {
+    let ads = call.pair.memories();
+    let trees = call.pair.trees(call.flags >= SLOTS && call.list >= SLOTS);
+    let mut expected = by_reference(call, &trees, ads.clone());
+    let got = by_library(call, ads);
+    // The reference makes no transitions: a match's count, within the bound.
+    if let Ok(trees) = &trees {
+        expected.answer[1] = transitions_of_match(&got.ads).min(bound(trees));
+    }
+    (got, expected)
+}
+
+fn bound(trees: &[Ad; 2]) -> u64 {
+    let nodes = trees.iter().map(Ad::node_count).sum::<usize>() as u64;
+    16 * nodes * nodes
+}
+
+fn transitions_of_match(ads: &[Stored; 2]) -> u64 {
+    let mut answer = [u64::MAX; 7];
+    library::matching(
+        [&ads[0].words, &ads[1].words],
+        [&ads[0].bytes, &ads[1].bytes],
+        &mut vec![0; 2 * bounds::SLOTS],
+        &mut vec![0; bounds::SLOTS],
+        0,
+        &mut answer,
+    );
+    answer[6]
+}
+
+fn by_library(call: &Call, ads: [Stored; 2]) -> Outcome {
+    let [mut flags, mut list] = call.rooms();
+    let mut answer = [u64::MAX; 3];
+    let second = if call.pair.twice { &ads[0] } else { &ads[1] };
+    library::dependencies(
+        [&ads[0].words, &second.words],
+        [&ads[0].bytes, &second.bytes],
+        &mut flags,
+        &mut list,
+        &mut answer,
+    );
+    Outcome {
+        answer,
+        flags,
+        list,
+        ads,
+    }
+}
+
+/// A refusal leaves all unchanged.
+fn by_reference(call: &Call, trees: &Result<[Ad; 2], u64>, ads: [Stored; 2]) -> Outcome {
+    let [mut flags, mut list] = call.rooms();
+    let answer = match trees {
+        Err(number) => [*number, 0, 0],
+        Ok([first, second]) => {
+            let pair = graph::Pair::new(first, second);
+            let order = pair.evaluation_order();
+            flags[..SLOTS].fill(0);
+            for id in pair.circular_references() {
+                flags[id.slot()] = 1;
+            }
+            list[..SLOTS].copy_from_slice(&list_words(&order));
+            [0, 0, order.len() as u64]
+        }
+    };
+    Outcome {
+        answer,
+        flags,
+        list,
+        ads,
+    }
+}
+
+fn describe(call: &Call) -> String {
+    let with = |samples: &_| Call {
+        pair: call.pair.with(samples),
+        ..call.clone()
+    };
+    let small = with(&shrunk_samples(&call.pair.samples, |samples| {
+        let (got, expected) = both(&with(samples));
+        got != expected
+    }));
+    let (got, expected) = both(&small);
+    let mut lines = small.pair.show();
+    lines += &format!(
+        "flags      {} words, list {} words\n",
+        call.flags, call.list
+    );
+    lines += &format!("library    {}\n", show(got.answer));
+    lines += &format!("reference  {}\n", show(expected.answer));
+    lines += &first_difference("flag", &got.flags, &expected.flags);
+    lines += &first_difference("list entry", &got.list, &expected.list);
+    if got.ads != expected.ads {
+        lines += "an ad's memory changed\n";
+    }
+    lines
+}
+
+fn show(answer: [u64; 3]) -> String {
+    match answer {
+        [0, transitions, length] => format!("{transitions} transitions, a list of {length}"),
+        [number, ..] => format!("refused {number}: {answer:?}"),
+    }
+}
