@@ -126,10 +126,17 @@ module _ (w b : List ℕ) (j : ℕ) where
 
 -- ---- an ad
 
-pub ad-written : (w b : List ℕ) (d m : ℕ) (o o₁ o₂ o₃ : List ℕ) → o₁ ≡ set o 0 91 → TableWritten w b 0 d 1 o₁ o₂ m → o₃ ≡ set o₂ m 93 → AdWritten w b d o o₃
+-- room for the brackets
+pub opened : (w b : List ℕ) (d : ℕ) → TableFits w b 0 d 2 → TableFits w b 0 d 1
+opened w b d f = record { words = f .words; few = f .few; ad = f .ad; node = f .node; byte = f .byte; table = f .table; count = f .count; near = omega (arith, f .near) }
+
+pub closing-near : (w b : List ℕ) (d m : ℕ) (o o₁ : List ℕ) (f : TableFits w b 0 d 2) → TableWritten w b 0 d 1 o o₁ m → Near m (93 ∷ [])
+closing-near w b d m o o₁ f t = omega (arith, f .near, t (f .ad) (f .node) (f .byte) (f .table) (f .count) .behind)
+
+pub ad-written : (w b : List ℕ) (d m r : ℕ) (o o₁ o₂ o₃ : List ℕ) → o₁ ≡ set o 0 91 → TableWritten w b 0 d 1 o₁ o₂ m → Puts (93 ∷ []) o₂ m o₃ r → AdWritten w b d o o₃
 unfolding printedAd
-ad-written w b d m o o₁ o₂ o₃ e t g a x c =
-    puts-join (puts-byte 91 o o₁ 0 e) (puts-join (t a 0 0 x (c ∙ sym (zero-add (length a)))) (puts-byte 93 o₂ o₃ m g)) .written
+ad-written w b d m r o o₁ o₂ o₃ e t g a x c =
+    puts-join (puts-byte 91 o o₁ 0 e) (puts-join (t a 0 0 x (c ∙ sym (zero-add (length a)))) g) .written
 
 -- ---- printing
 
@@ -160,7 +167,7 @@ module _ (w b o : List ℕ) (hw : length w ≡ 4864) (hb : length b ≡ 16384) w
     pub print-longer : 16384 < k → Prints w b o o (Refused 11 0)
     print-longer g = (long room (h .1) (λ f. omega (arith, h .4, f .bounded)), refl, refl)
 
-    pub print-fits : k ≤ 16384 → TableFits w b 0 d 1
+    pub print-fits : k ≤ 16384 → TableFits w b 0 d 2
     print-fits g = record {
       words = omega arith;
       few = let z : length (h .0) ≤ 256 = h .1 .bounded .within .few-definitions in omega (arith, h .2);

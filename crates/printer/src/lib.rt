@@ -161,12 +161,12 @@ fn put_definitions(
 
 // Writes an ad of d definitions at the front of the output.
 fn put_ad(words: &[u64], bytes: &[u8], d: usize, out: &mut [u8])
-    requires { ⌜ TableFits (now words) (now bytes) 0 d 1 ⌝ }
+    requires { ⌜ TableFits (now words) (now bytes) 0 d 2 ⌝ }
     ensures { λ _. ⌜ AdWritten (now (words .entry)) (now (bytes .entry)) d (now (out .entry)) (now (out .exit)) ⌝ }
 {
     put_byte(out, 0, 91);
     let m = put_definitions(words, bytes, 0, d, out, 1);
-    put_byte(out, m, 93);
+    put(b"]", out, m);
 }
 
 // Printing over exactly the room of an ad.
