@@ -14,7 +14,7 @@ use Rattle.syntax.specs.Token.{frontOf, reserved, wordIn, nameFront, valueFrom,
 use Rattle.syntax.specs.Grammar.{defined}
 use Rattle.syntax.specs.Reader.{read, parse, accepted, adAt, definitionsAt, conditionalAt, count}
 use Rattle.syntax.specs.declared.Binary.the-variants.{Or, And, Equal, Is, Greater, Add, Divide, Remainder}
-use Rattle.syntax.specs.declared.Unary.the-variants.{Minus}
+use Rattle.syntax.specs.declared.Unary.the-variants.{Not, Minus}
 use Rattle.ad.specs.Layout.{Named, literalNode, literalBytes, scopeKind, exprNodes, exprBytes, adNodes, adBytes, storedWords, storedBytes}
 use Rattle.ad.specs.Stored.{arity, operands}
 use Rattle.links.specs.Pair.{both, definitionAt, pairGraph, StoredAd}
@@ -29,7 +29,7 @@ use Rattle.integers.specs.Integers.{width, wrap, signed}
 use lib.IntN.{negsuc}
 use Rattle.nodes.specs.Nodes.{valueIn}
 use Rattle.evaluation.specs.Evaluation.{ruleAt}
-use Rattle.worked.specs.Table.{Gift, Row, Holds, AllHold, alone, table}
+use Rattle.worked.specs.Table.{Gift, Row, Holds, AllHold, alone, table, fault}
 use Rattle.worked.specs.Laws.Solving.{given, valuesOf, tryWith, attempt, list, among, behind, enterWith, enters}
 use Rattle.worked.specs.Laws.Trees.{treeFrom, treeLinks, treeRefers, treeRoots, treeNodes, upTo, refers-are, node-in, straight, Tries, Checks, comes}
 
@@ -579,3 +579,57 @@ w12 = record {
 pub worked : AllHold table
 unfolding AllHold table w11-row w12-row
 worked = (w1, (w2, (w3, (w4, (w5, (w6, (w7, (w8, (w9, (w10, (w11-holds, (w12, tt))))))))))))
+
+-- ---- the fault of the matcher before ours
+
+fault-first : Ad
+fault-first = defined-as (bytes "Requirements") (unary Not (binary Greater (reference other (bytes "PulseWidth")) (literal (integer 50)))) ∷ []
+
+fault-second : Ad
+fault-second = defined-as (bytes "Requirements") (literal (boolean true)) ∷ []
+
+fault-first-stored : StoredAd (storedWords fault-first) (storedBytes fault-first) fault-first
+unfolding fault-first defined-as nodes size Named bytes
+fault-first-stored = record { words = refl; bytes-are = refl; few-nodes = omega arith; few-definitions = omega arith; named = (omega arith, tt) }
+
+fault-second-stored : StoredAd (storedWords fault-second) (storedBytes fault-second) fault-second
+unfolding fault-second defined-as nodes size Named bytes
+fault-second-stored = record { words = refl; bytes-are = refl; few-nodes = omega arith; few-definitions = omega arith; named = (omega arith, tt) }
+
+fault-first-read : read (bytes "[Requirements = !(other.PulseWidth > 50)]") ≡ accepted fault-first
+unfolding fault-first defined-as read parse adAt definitionsAt conditionalAt count size defined tokensFrom frontToken nameFront wordIn reserved numberFront integerFront realFront fractionOf valueFrom bodyOf escapeOf frontOf symbolIn begins spellings bytes isBlank isDigit isLetter startsName continuesName lowerCase sameName sameBytes
+fault-first-read = refl
+
+fault-second-read : read (bytes "[Requirements = true]") ≡ accepted fault-second
+unfolding fault-second defined-as read parse adAt definitionsAt conditionalAt count size defined tokensFrom frontToken nameFront wordIn reserved numberFront integerFront realFront fractionOf valueFrom bodyOf escapeOf frontOf symbolIn begins spellings bytes isBlank isDigit isLetter startsName continuesName lowerCase sameName sameBytes
+fault-second-read = refl
+
+fault-flags : Flags (pairGraph (storedWords fault-first) (storedBytes fault-first) (storedWords fault-second) (storedBytes fault-second)) (λ x. false)
+unfolding fault-first fault-second defined-as attempt tryWith enters enterWith behind among treeLinks treeFrom treeNodes treeRoots upTo definitionAt both storedWords storedBytes adNodes adBytes exprNodes exprBytes literalNode literalBytes scopeKind size nodes operands arity ruleAt valueIn bytes sameName sameBytes lowerCase stringOrder bytesOrder Tries wrap signed
+fault-flags = straight fault-first-stored fault-second-stored 16 {vs = valuesOf (attempt (treeLinks fault-first fault-second) (ruleAt (storedWords fault-first) (storedBytes fault-first) (storedWords fault-second) (storedBytes fault-second)) 16 (treeNodes fault-first fault-second))} refl
+
+-- A MISSING ATTRIBUTE NEGATED IS NO MATCH
+pub fault-unmatched : Holds fault
+unfolding fault fault-first fault-second defined-as attempt tryWith enters enterWith behind among treeLinks treeFrom treeNodes treeRoots upTo definitionAt both storedWords storedBytes adNodes adBytes exprNodes exprBytes literalNode literalBytes scopeKind size nodes operands arity ruleAt valueIn bytes sameName sameBytes lowerCase stringOrder bytesOrder Tries wrap signed
+fault-unmatched = record {
+  first-ad = fault-first;
+  second-ad = fault-second;
+  first-read = fault-first-read;
+  second-read = fault-second-read;
+  comes = λ m. comes fault-first-stored fault-second-stored (λ x. false) fault-flags 16
+      (record {
+        first-requirement = Undefined ∷ [];
+        second-requirement = Boolean true ∷ [];
+        first-rank = [];
+        second-rank = [];
+        order-is = refl;
+        gives = (refl, tt);
+        first-required = refl;
+        second-required = refl;
+        first-ranked = refl;
+        second-ranked = refl;
+        matched-is = refl;
+        first-rank-is = refl;
+        second-rank-is = refl;
+      }) m;
+}

@@ -104,3 +104,16 @@ table =
       second-rank = 0;
     }
     ∷ []
+
+-- The fault of the matcher before ours: `!(other.PulseWidth > 50)` with an ad that has no PulseWidth. 'none found is Undefined', and
+-- 'Matched: both Requirements are true, nothing else.'
+unfoldable pub fault : Row
+fault = record {
+  first = bytes "[Requirements = !(other.PulseWidth > 50)]";
+  second = bytes "[Requirements = true]";
+  gives = record { name = bytes "Requirements"; value = Undefined } ∷ [];
+  order = 0 ∷ 1 ∷ 2 ∷ 3 ∷ 1024 ∷ [];
+  matched = false;
+  first-rank = 0;
+  second-rank = 0;
+}
