@@ -87,13 +87,14 @@ fn count_slots(counts: &mut Table, table: &[u64]) {
 // Calls.
 
 /// Budgets beside the list's length.
-const BUDGETS: [&str; 7] = [
+const BUDGETS: [&str; 8] = [
     "0",
     "1",
     "one less",
     "exact",
     "one more",
-    "any in between",
+    "any up to the length",
+    "any",
     "65,535",
 ];
 
@@ -107,9 +108,9 @@ impl Budget {
     fn draw(rng: &mut Rng) -> Budget {
         let kind = match rng.below(16) {
             kind if kind < BUDGETS.len() => kind,
-            7..=9 => 3,
-            10..=11 => 5,
-            _ => 6,
+            8..=10 => 3,
+            11..=12 => 5,
+            _ => 7,
         };
         let draw = rng.below(65_536);
         Budget { kind, draw }
@@ -123,6 +124,7 @@ impl Budget {
             3 => length,
             4 => length + 1,
             5 => self.draw % (length + 1),
+            6 => self.draw,
             _ => 65_535,
         };
         budget as u16

@@ -1,23 +1,24 @@
 //! Matches of pairs that are hard in different ways: transitions, and the time of check,
 //! traversal and run.
 
-use super::{medians, micros};
+use super::{median, rounds};
 use crate::layout::Stored;
 use crate::library;
 use reference::bounds;
 use reference::check::check;
-use reference::generate::ads::{binary, boolean, conditional, definition, integer, other, own};
+use reference::generate::ads::{
+    binary, boolean, conditional, definition, integer, other, own, string,
+};
 use reference::graph;
 use reference::matching::match_ads;
 use reference::read::read;
 use reference::tree::{Ad, BinaryOperator};
 use std::fmt::Write;
 use std::hint::black_box;
-use std::time::Duration;
 
 pub fn run(count: u64) -> String {
     let mut text = format!(
-        "{:<34} {:>9} {:>5} {:>11}  {:<9} {:>10} {:>10} {:>10} {:>10} {:>6}\n",
+        "{:<34} {:>11} {:>5} {:>11}  {:<9} {:>8} {:>9} {:>8} {:>8} {:>6}\n",
         "median time in us",
         "nodes",
         "list",
@@ -29,50 +30,57 @@ pub fn run(count: u64) -> String {
         "match",
         "ratio"
     );
-    for (name, pair) in pairs() {
-        let measured = Measured::of(count, &pair);
-        text += &measured.lines(name);
+    for (name, pairs) in all() {
+        text += &Measured::of(count, &pairs).lines(name);
     }
     text
 }
 
-/// Times of the check of both ads, a match with budget 0, and a whole match.
-type Times = [Duration; 3];
-
+/// Sums over all pairs, and the time of each round: check of both ads, a match with budget 0
+/// and a whole match, by the library and then by the reference.
 struct Measured {
     nodes: [usize; 2],
     length: usize,
     transitions: u64,
-    library: Times,
-    reference: Times,
+    times: Vec<[f64; 6]>,
 }
 
 impl Measured {
-    fn of(count: u64, [first, second]: &[Ad; 2]) -> Measured {
-        let ads = [Stored::of(first), Stored::of(second)];
-        let order = graph::Pair::new(first, second).evaluation_order();
-        let match_both = |budget| {
-            let _ = black_box(match_ads(black_box(first), second, budget));
+    fn of(count: u64, pairs: &[[Ad; 2]]) -> Measured {
+        let stored: Vec<[Stored; 2]> = pairs.iter().map(|pair| stored(pair)).collect();
+        let matched = |budget| -> u64 {
+            let transitions = stored.iter().map(|ads| library_match(ads, budget));
+            transitions.sum()
         };
-        let times = medians(
+        let times = rounds(
             count,
             [
-                &mut || ads.iter().for_each(library_check),
-                &mut || drop(library_match(&ads, 0)),
-                &mut || drop(library_match(&ads, u16::MAX)),
+                &mut || stored.iter().flatten().for_each(library_check),
                 &mut || {
-                    let _ = black_box((check(black_box(first)), check(black_box(second))));
+                    black_box(matched(0));
                 },
-                &mut || match_both(0),
-                &mut || match_both(u16::MAX),
+                &mut || {
+                    black_box(matched(u16::MAX));
+                },
+                &mut || pairs.iter().flatten().for_each(reference_check),
+                &mut || pairs.iter().for_each(|pair| reference_match(pair, 0)),
+                &mut || {
+                    pairs
+                        .iter()
+                        .for_each(|pair| reference_match(pair, u16::MAX))
+                },
             ],
         );
+        let length = |[first, second]: &[Ad; 2]| {
+            let pair = graph::Pair::new(first, second);
+            pair.evaluation_order().len()
+        };
+        let nodes = |side: usize| pairs.iter().map(|pair| pair[side].node_count()).sum();
         Measured {
-            nodes: [first.node_count(), second.node_count()],
-            length: order.len(),
-            transitions: library_match(&ads, u16::MAX).answer[6],
-            library: [times[0], times[1], times[2]],
-            reference: [times[3], times[4], times[5]],
+            nodes: [nodes(0), nodes(1)],
+            length: pairs.iter().map(length).sum(),
+            transitions: matched(u16::MAX),
+            times,
         }
     }
 
@@ -80,37 +88,28 @@ impl Measured {
     fn lines(&self, name: &str) -> String {
         let [first, second] = self.nodes;
         let nodes = format!("{first}+{second}");
+        let ratio = median(&self.times, |round| round[2] / round[5]);
         let mut lines = format!(
-            "{name:<34} {nodes:>9} {:>5} {:>11}  {:<9}",
+            "{name:<34} {nodes:>11} {:>5} {:>11}  {:<9}",
             self.length, self.transitions, "library"
         );
-        let ratio = micros(self.library[2]) / micros(self.reference[2]);
-        writeln!(lines, "{} {ratio:>6.2}", shares(self.library)).unwrap();
-        writeln!(
-            lines,
-            "{:<63} {:<9}{}",
-            "",
-            "reference",
-            shares(self.reference)
-        )
-        .unwrap();
+        writeln!(lines, "{} {ratio:>6.2}", self.shares(0)).unwrap();
+        writeln!(lines, "{:<65} {:<9}{}", "", "reference", self.shares(3)).unwrap();
         lines
+    }
+
+    /// Traversal: what a match with budget 0 takes beside the check. Run: what the steps take.
+    fn shares(&self, from: usize) -> String {
+        let check = median(&self.times, |round| round[from]);
+        let traversal = median(&self.times, |round| round[from + 1] - round[from]);
+        let run = median(&self.times, |round| round[from + 2] - round[from + 1]);
+        let whole = median(&self.times, |round| round[from + 2]);
+        format!(" {check:>8.1} {traversal:>9.1} {run:>8.1} {whole:>8.1}")
     }
 }
 
-/// Traversal: what a match with budget 0 takes beside the check. Run: what the steps take.
-fn shares([check, none, whole]: Times) -> String {
-    let traversal = none.saturating_sub(check);
-    let run = whole.saturating_sub(none);
-    let times = [check, traversal, run, whole];
-    times
-        .iter()
-        .map(|&time| format!(" {:>10.1}", micros(time)))
-        .collect()
-}
-
-struct Done {
-    answer: [u64; 7],
+fn stored([first, second]: &[Ad; 2]) -> [Stored; 2] {
+    [Stored::of(first), Stored::of(second)]
 }
 
 fn library_check(ad: &Stored) {
@@ -119,7 +118,8 @@ fn library_check(ad: &Stored) {
     black_box(answer);
 }
 
-fn library_match(ads: &[Stored; 2], budget: u16) -> Done {
+/// The transitions.
+fn library_match(ads: &[Stored; 2], budget: u16) -> u64 {
     let mut table = [0; 2 * bounds::SLOTS];
     let mut list = [0; bounds::SLOTS];
     let mut answer = [0; 7];
@@ -132,17 +132,26 @@ fn library_match(ads: &[Stored; 2], budget: u16) -> Done {
         &mut answer,
     );
     black_box((table, list));
-    Done { answer }
+    answer[6]
+}
+
+fn reference_check(ad: &Ad) {
+    let _ = black_box(check(black_box(ad)));
+}
+
+fn reference_match([first, second]: &[Ad; 2], budget: u16) {
+    let _ = black_box(match_ads(black_box(first), second, budget));
 }
 
 // The pairs.
 
-fn pairs() -> Vec<(&'static str, [Ad; 2])> {
+fn all() -> Vec<(&'static str, Vec<[Ad; 2]>)> {
     vec![
-        ("(a) 200 shared names, doubled", doubled()),
-        ("(b) 512 definitions in one ring", ring()),
-        ("(c) 1,536 references in one chain", chain()),
-        ("(d) job and bench, 40 definitions", realistic()),
+        ("(a) 200 shared names, doubled", vec![doubled()]),
+        ("(b) 512 definitions in one ring", vec![ring()]),
+        ("(c) 1,536 references in one chain", vec![chain()]),
+        ("(d) job and bench, 40 definitions", vec![realistic()]),
+        ("(e) the job and 256 such benches", benches()),
     ]
 }
 
@@ -215,4 +224,22 @@ fn realistic() -> [Ad; 2] {
         include_bytes!("../../ads/bench.ad"),
     ];
     texts.map(|text| read(text).expect("an ad"))
+}
+
+/// The same job with benches that differ in memory, load and number.
+fn benches() -> Vec<[Ad; 2]> {
+    let [job, bench] = realistic();
+    let with = |number: u32| {
+        let mut bench = bench.clone();
+        for definition in &mut bench.definitions {
+            match definition.name.as_slice() {
+                b"Memory" => definition.expression = integer(2_048 + 128 * number),
+                b"LoadPercent" => definition.expression = integer(number % 100),
+                b"Name" => definition.expression = string(format!("bench{number}").as_bytes()),
+                _ => {}
+            }
+        }
+        [job.clone(), bench]
+    };
+    (0..256).map(with).collect()
 }

@@ -1,6 +1,6 @@
 //! Check and print of the ads whose reading is timed.
 
-use super::{medians, micros, reading};
+use super::{median, reading, rounds};
 use crate::layout::Stored;
 use crate::library;
 use reference::bounds;
@@ -10,7 +10,6 @@ use reference::read::read;
 use reference::tree::Ad;
 use std::fmt::Write;
 use std::hint::black_box;
-use std::time::Duration;
 
 pub fn run(count: u64) -> String {
     let mut text = format!(
@@ -29,7 +28,7 @@ fn line(name: &str, count: u64, ad: &Ad) -> String {
     let stored = Stored::of(ad);
     let mut output = vec![0; bounds::TEXT_BYTES];
     let (mut checked, mut printed) = ([0; 4], [0; 2]);
-    let [check_time, second_check, print_time, second_print] = medians(
+    let times = rounds(
         count,
         [
             &mut || library::check(black_box(&stored.words), &stored.bytes, &mut checked),
@@ -48,14 +47,11 @@ fn line(name: &str, count: u64, ad: &Ad) -> String {
         ],
     );
     let mut line = format!("{name:<34} {:>6}", checked[3]);
-    for [library, reference] in [[check_time, second_check], [print_time, second_print]] {
-        write!(line, "{}", columns(library, reference)).unwrap();
+    for [library, reference] in [[0, 1], [2, 3]] {
+        let library = median(&times, |round| round[library]);
+        let reference = median(&times, |round| round[reference]);
+        let ratio = library / reference;
+        write!(line, " {library:>10.1} {reference:>10.1} {ratio:>6.2}").unwrap();
     }
     line + "\n"
-}
-
-fn columns(library: Duration, reference: Duration) -> String {
-    let [library, reference] = [library, reference].map(micros);
-    let ratio = library / reference;
-    format!(" {library:>10.1} {reference:>10.1} {ratio:>6.2}")
 }

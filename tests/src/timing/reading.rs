@@ -1,7 +1,7 @@
 //! How long reading takes, by the library and by the reference, on texts that are hard in
 //! different ways.
 
-use super::{medians, micros};
+use super::{median, rounds};
 use crate::layout::Stored;
 use crate::library;
 use reference::bounds;
@@ -18,7 +18,7 @@ pub fn run(count: u64) -> String {
     for (name, bytes) in texts() {
         let mut memory = Stored::zero();
         let mut answer = [0; 3];
-        let [proved, second] = medians(
+        let times = rounds(
             count,
             [
                 &mut || {
@@ -34,14 +34,15 @@ pub fn run(count: u64) -> String {
                 },
             ],
         );
+        let [proved, second] = [0, 1].map(|call| median(&times, |round| round[call]));
         writeln!(
             text,
             "{name:<34} {:>6} {:>11} {:>8.1} us {:>8.1} us {:>6.2}",
             bytes.len(),
             format!("{}/{}/{}", answer[0], answer[1], answer[2]),
-            micros(proved),
-            micros(second),
-            micros(proved) / micros(second)
+            proved,
+            second,
+            proved / second
         )
         .unwrap();
     }
