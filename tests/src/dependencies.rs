@@ -5,7 +5,7 @@ use crate::layout::Stored;
 use crate::library;
 use crate::matching::list_words;
 use crate::memory::{noise_words, size};
-use crate::pairs::{Pair, FAMILIES};
+use crate::pairs::{most_transitions, Pair, FAMILIES};
 use crate::report::{first_difference, Report, Table};
 use crate::shrink::shrunk_samples;
 use crate::stored::Samples;
@@ -83,14 +83,9 @@ fn both(call: &Call) -> (Outcome, Outcome) {
     let got = by_library(call, ads);
     // The reference makes no transitions: a match's count, within the bound.
     if let Ok(trees) = &trees {
-        expected.answer[1] = transitions_of_match(&got.ads).min(bound(trees));
+        expected.answer[1] = transitions_of_match(&got.ads).min(most_transitions(trees));
     }
     (got, expected)
-}
-
-fn bound(trees: &[Ad; 2]) -> u64 {
-    let nodes = trees.iter().map(Ad::node_count).sum::<usize>() as u64;
-    16 * nodes * nodes
 }
 
 fn transitions_of_match(ads: &[Stored; 2]) -> u64 {

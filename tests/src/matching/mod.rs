@@ -1,23 +1,20 @@
 //! Matches: the library's answer, the whole table and list that it leaves, and all other
 //! memory, against the reference's; and the same with the ads exchanged.
 
+mod call;
+
 use crate::layout::Stored;
 use crate::library;
-use crate::memory::{noise_words, size};
-use crate::pairs::{Pair, FAMILIES};
+use crate::pairs::{most_transitions, Pair, FAMILIES};
 use crate::report::{first_difference, Report, Table};
 use crate::shrink::shrunk_samples;
 use crate::slot::{self, Words, KINDS};
 use crate::stored::Samples;
 use crate::Cases;
+use call::{Call, BUDGETS, LIST, TABLE};
 use reference::bounds;
 use reference::graph::{self, NodeId};
 use reference::matching::{match_pair, Match};
-use reference::rng::Rng;
-use reference::tree::Ad;
-
-const TABLE: usize = 2 * bounds::SLOTS;
-const LIST: usize = bounds::SLOTS;
 
 const ANSWERS: [&str; 5] = ["matched", "unmatched", "not done", "1", "10"];
 const EXCHANGED: usize = FAMILIES.len();
@@ -84,96 +81,6 @@ fn count_slots(counts: &mut Table, table: &[u64]) {
     }
 }
 
-// Calls.
-
-/// Budgets beside the list's length.
-const BUDGETS: [&str; 8] = [
-    "0",
-    "1",
-    "one less",
-    "exact",
-    "one more",
-    "any up to the length",
-    "any",
-    "65,535",
-];
-
-#[derive(Clone, Copy)]
-struct Budget {
-    kind: usize,
-    draw: usize,
-}
-
-impl Budget {
-    fn draw(rng: &mut Rng) -> Budget {
-        let kind = match rng.below(16) {
-            kind if kind < BUDGETS.len() => kind,
-            8..=10 => 3,
-            11..=12 => 5,
-            _ => 7,
-        };
-        let draw = rng.below(65_536);
-        Budget { kind, draw }
-    }
-
-    fn of(&self, length: usize) -> u16 {
-        let budget = match self.kind {
-            0 => 0,
-            1 => 1,
-            2 => length.saturating_sub(1),
-            3 => length,
-            4 => length + 1,
-            5 => self.draw % (length + 1),
-            6 => self.draw,
-            _ => 65_535,
-        };
-        budget as u16
-    }
-}
-
-/// Two ads in memory, the sizes of table and list, the seed of their noise, and a budget.
-#[derive(Clone)]
-struct Call {
-    pair: Pair,
-    table: usize,
-    list: usize,
-    noise: u64,
-    budget: Budget,
-}
-
-impl Call {
-    fn draw(rng: &mut Rng, pair: Pair) -> Call {
-        let short = rng.below(100);
-        Call {
-            pair,
-            table: size(rng, TABLE, short <= 1),
-            list: size(rng, LIST, short == 1 || short == 2),
-            noise: rng.bits(),
-            budget: Budget::draw(rng),
-        }
-    }
-
-    fn exchanged(&self) -> Call {
-        let pair = self.pair.exchanged();
-        Call {
-            pair,
-            ..self.clone()
-        }
-    }
-
-    fn trees(&self) -> Result<[Ad; 2], u64> {
-        self.pair.trees(self.table >= TABLE && self.list >= LIST)
-    }
-
-    /// Table and list before the call.
-    fn rooms(&self) -> [Vec<u64>; 2] {
-        [
-            noise_words(self.noise, self.table),
-            noise_words(!self.noise, self.list),
-        ]
-    }
-}
-
 /// What a call answers and leaves: refusal, finished, matched, both ranks, steps and
 /// transitions.
 #[derive(PartialEq, Eq)]
@@ -194,7 +101,7 @@ fn both(call: &Call) -> (Outcome, Outcome) {
     let mut expected = by_reference(call, &graph, budget, ads.clone());
     let got = by_library(call, budget, ads);
     // The reference makes no transitions: any count within the bound will do.
-    if trees.is_ok_and(|trees| within_bound(got.answer[6], &trees)) {
+    if trees.is_ok_and(|trees| got.answer[6] <= most_transitions(&trees)) {
         expected.answer[6] = got.answer[6];
     }
     (got, expected)
@@ -208,12 +115,6 @@ fn budget(call: &Call, graph: &Graph) -> u16 {
         .as_ref()
         .map_or(0, |graph| graph.evaluation_order().len());
     call.budget.of(length)
-}
-
-/// 01: "a count of at most sixteen times the square of the nodes of both ads".
-fn within_bound(transitions: u64, trees: &[Ad; 2]) -> bool {
-    let nodes = trees.iter().map(Ad::node_count).sum::<usize>() as u64;
-    transitions <= 16 * nodes * nodes
 }
 
 fn by_library(call: &Call, budget: u16, ads: [Stored; 2]) -> Outcome {
@@ -285,12 +186,8 @@ pub fn list_words(order: &[NodeId]) -> Vec<u64> {
 // What a difference looks like.
 
 fn describe(call: &Call) -> String {
-    let with = |samples: &_| Call {
-        pair: call.pair.with(samples),
-        ..call.clone()
-    };
-    let small = with(&shrunk_samples(&call.pair.samples, |samples| {
-        let (got, expected) = both(&with(samples));
+    let small = call.with(&shrunk_samples(&call.pair.samples, |samples| {
+        let (got, expected) = both(&call.with(samples));
         got != expected
     }));
     let (got, expected) = both(&small);
