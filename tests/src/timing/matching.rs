@@ -149,7 +149,7 @@ fn all() -> Vec<(&'static str, Vec<[Ad; 2]>)> {
     vec![
         ("(a) 200 shared names, doubled", vec![doubled()]),
         ("(b) 512 definitions in one ring", vec![ring()]),
-        ("(c) 1,536 references in one chain", vec![chain()]),
+        ("(c) 1,533 references in one chain", vec![chain()]),
         ("(d) job and bench, 40 definitions", vec![realistic()]),
         ("(e) the job and 256 such benches", benches()),
     ]
