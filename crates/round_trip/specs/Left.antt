@@ -9,7 +9,8 @@ use Rattle.ad.specs.Layout.{adBytes, adBytesRoom, storedWords, storedBytes}
 use Rattle.well_formed.specs.declared.Checked.{Checked}
 use Rattle.well_formed.specs.declared.Checked.the-variants.{WellFormed, Malformed}
 
--- 'reading [the text s], were its length not bounded, would leave exactly this content, zeros included': the words w and the bytes b
+-- 'reading some text, were its length not bounded, would leave exactly this content, zeros included', of the text s: the words w and
+-- the bytes b
 pub record Leaves (s w b : List ℕ) : Type 0 where
   pub tree : Ad
   pub reads : parse s ≡ accepted tree

@@ -608,7 +608,7 @@ fault-flags : Flags (pairGraph (storedWords fault-first) (storedBytes fault-firs
 unfolding fault-first fault-second defined-as attempt tryWith enters enterWith behind among treeLinks treeFrom treeNodes treeRoots upTo definitionAt both storedWords storedBytes adNodes adBytes exprNodes exprBytes literalNode literalBytes scopeKind size nodes operands arity ruleAt valueIn bytes sameName sameBytes lowerCase stringOrder bytesOrder Tries wrap signed
 fault-flags = straight fault-first-stored fault-second-stored 16 {vs = valuesOf (attempt (treeLinks fault-first fault-second) (ruleAt (storedWords fault-first) (storedBytes fault-first) (storedWords fault-second) (storedBytes fault-second)) 16 (treeNodes fault-first fault-second))} refl
 
--- A MISSING ATTRIBUTE NEGATED IS NO MATCH
+-- A MISSING ATTRIBUTE NEGATED IS NO MATCH: 'Matched: both Requirements are true, nothing else.'
 pub fault-unmatched : Holds fault
 unfolding fault fault-first fault-second defined-as attempt tryWith enters enterWith behind among treeLinks treeFrom treeNodes treeRoots upTo definitionAt both storedWords storedBytes adNodes adBytes exprNodes exprBytes literalNode literalBytes scopeKind size nodes operands arity ruleAt valueIn bytes sameName sameBytes lowerCase stringOrder bytesOrder Tries wrap signed
 fault-unmatched = record {

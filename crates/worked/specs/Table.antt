@@ -71,7 +71,7 @@ integer z = Integer (wrap width z)
 abbrev pub alone : List ℕ → Value → Row
 alone text value = record { first = text; second = bytes "[]"; gives = record { name = bytes "x"; value = value } ∷ []; order = []; matched = false; first-rank = 0; second-rank = 0 }
 
--- THE TABLE: W1 to W12
+-- THE TABLE, W1 to W12: 'Examples, those marked W to be proved'
 unfoldable pub table : List Row
 table =
     alone (bytes "[x = undefined || true]") (Boolean true)
