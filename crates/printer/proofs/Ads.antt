@@ -6,7 +6,7 @@ use mathlib.Core.Path.{_≡_, refl, sym, _∙_, ap, subst}
 use mathlib.Core.Logic.{inl, inr}
 use mathlib.Core.List.{List, [], _∷_, _++_}
 use lib.ListN.{length, set, take, drop, length-append}
-use lib.Seq.{sets-eq, take-all, take-at, length-take-le}
+use lib.Seq.{sets, sets-eq, take-all, take-at, length-take-le}
 use Rattle.text.specs.Bytes.{bytes}
 use Rattle.syntax.specs.Tree.{Definition, Ad, size}
 use Rattle.syntax.specs.Print.{printed, definitionText, definitionsText, printedAd}
@@ -22,7 +22,7 @@ use Rattle.well_formed.specs.Laws.Prints.{length-definition}
 use Rattle.well_formed.specs.Laws.Whole.{holds-table}
 use Rattle.well_formed.specs.declared.Checked.the-variants.{WellFormed, Malformed}
 use Rattle.printer.specs.Post.{Fits, Written, RowFits, RowWritten, TableFits, TableWritten, AdWritten}
-use Rattle.printer.specs.Prints.{Roomy, Stored, Refuses, small, malformed, long, Prints, HandsBack}
+use Rattle.printer.specs.Prints.{Roomy, Stored, Refuses, small, malformed, long, PrintsText, Prints, HandsBack}
 use Rattle.printer.specs.declared.Printed.{Printed}
 use Rattle.printer.specs.declared.Printed.the-variants.{Text, Refused}
 
@@ -148,8 +148,23 @@ module _ (w b o : List ℕ) (hw : length w ≡ 4864) (hb : length b ≡ 16384) w
   room : Roomy w b
   room = record { words = omega arith; bytes = omega arith }
 
-  pub print-malformed : Answers w b Malformed → Prints w b o o (Refused 10 0)
-  print-malformed h = (malformed room h, refl, refl)
+  module _ (t : Ad → List ℕ) where
+    pub print-malformed : Answers w b Malformed → PrintsText t w b o o (Refused 10 0)
+    print-malformed h = (malformed room h, refl, refl)
+
+    module _ (d n k m : ℕ) (h : Answers w b (WellFormed d n k)) (e : m ≡ length (t (h .0))) where
+      pub print-long : length o < m → PrintsText t w b o o (Refused 11 0)
+      print-long g = (long room (h .1) (λ f. omega (arith, e, f .lent)), refl, refl)
+
+      pub print-longer : 16384 < m → PrintsText t w b o o (Refused 11 0)
+      print-longer g = (long room (h .1) (λ f. omega (arith, e, f .bounded)), refl, refl)
+
+      -- the text put at the front is the answer
+      pub print-put : (o₁ : List ℕ) → m ≤ length o → m ≤ 16384 → o₁ ≡ sets o 0 (t (h .0)) → PrintsText t w b o o₁ (Text m)
+      print-put o₁ g f x =
+          let a = h .0 in
+          let z : 0 + length (t a) ≡ m = omega (arith, e) in
+          (a, h .1, record { lent = omega (arith, e); bounded = omega (arith, e) }, e, x ∙ (sets-eq (t a) o 0 (omega (arith, e)) ∙ ap (λ (j : ℕ). t a ++ drop j o) z))
 
   module _ (d n k : ℕ) (h : Answers w b (WellFormed d n k)) where
     same-words : take 4864 w ≡ w
@@ -158,14 +173,8 @@ module _ (w b o : List ℕ) (hw : length w ≡ 4864) (hb : length b ≡ 16384) w
     same-bytes : take 16384 b ≡ b
     same-bytes = take-all 16384 b (omega arith)
 
-    table : Table w b 0 0 0 (h .0)
+    pub table : Table w b 0 0 0 (h .0)
     table = holds-table w b hw hb (h .0) (subst (λ (x : List ℕ). Holds x b (h .0)) same-words (subst (λ (x : List ℕ). Holds (take 4864 w) x (h .0)) same-bytes (h .1))) .0
-
-    pub print-long : length o < k → Prints w b o o (Refused 11 0)
-    print-long g = (long room (h .1) (λ f. omega (arith, h .4, f .lent)), refl, refl)
-
-    pub print-longer : 16384 < k → Prints w b o o (Refused 11 0)
-    print-longer g = (long room (h .1) (λ f. omega (arith, h .4, f .bounded)), refl, refl)
 
     pub print-fits : k ≤ 16384 → TableFits w b 0 d 2
     print-fits g = record {
@@ -180,18 +189,15 @@ module _ (w b o : List ℕ) (hw : length w ≡ 4864) (hb : length b ≡ 16384) w
     }
 
     pub print-text : (o₁ : List ℕ) → k ≤ length o → k ≤ 16384 → AdWritten w b d o o₁ → Prints w b o o₁ (Text k)
-    print-text o₁ g f x =
-        let a = h .0 in
-        let e : 0 + length (printedAd a) ≡ k = omega (arith, h .4) in
-        (a, h .1, record { lent = omega (arith, h .4); bounded = omega (arith, h .4) }, h .4, x a table (h .2) ∙ (sets-eq (printedAd a) o 0 (omega (arith, h .4)) ∙ ap (λ (m : ℕ). printedAd a ++ drop m o) e))
+    print-text o₁ g f x = print-put printedAd d n k k h (h .4) o₁ g f (x (h .0) table (h .2))
 
-pub small-words : (w b o : List ℕ) → length w < 4864 → Prints w b o o (Refused 1 0)
-small-words w b o h = (small (λ r. omega (arith, r .words)), refl, refl)
+pub small-words : (t : Ad → List ℕ) (w b o : List ℕ) → length w < 4864 → PrintsText t w b o o (Refused 1 0)
+small-words t w b o h = (small (λ r. omega (arith, r .words)), refl, refl)
 
-pub small-bytes : (w b o : List ℕ) → length b < 16384 → Prints w b o o (Refused 1 0)
-small-bytes w b o h = (small (λ r. omega (arith, r .bytes)), refl, refl)
+pub small-bytes : (t : Ad → List ℕ) (w b o : List ℕ) → length b < 16384 → PrintsText t w b o o (Refused 1 0)
+small-bytes t w b o h = (small (λ r. omega (arith, r .bytes)), refl, refl)
 
-module _ (w b o o₁ : List ℕ) (hw : 4864 ≤ length w) (hb : 16384 ≤ length b) where
+module _ (t : Ad → List ℕ) (w b o o₁ : List ℕ) (hw : 4864 ≤ length w) (hb : 16384 ≤ length b) where
   whole : Roomy w b
   whole = record { words = hw; bytes = hb }
 
@@ -204,12 +210,12 @@ module _ (w b o o₁ : List ℕ) (hw : 4864 ≤ length w) (hb : 16384 ≤ length
   front-room : Roomy (take 4864 w) (take 16384 b)
   front-room = record { words = omega (arith, length-take-le 4864 w hw); bytes = omega (arith, length-take-le 16384 b hb) }
 
-  refused-front : {k : ℕ} → Refuses (take 4864 w) (take 16384 b) o k → Refuses w b o k
+  refused-front : {k : ℕ} → Refuses t (take 4864 w) (take 16384 b) o k → Refuses t w b o k
   refused-front (small n) = absurd (n front-room)
   refused-front (malformed r n) = malformed whole (λ a s. n a (stored-front a s))
   refused-front (long r {a} s n) = long whole (front-stored a s) n
 
-  pub prints-front : (r : Printed) → Prints (take 4864 w) (take 16384 b) o o₁ r → Prints w b o o₁ r
+  pub prints-front : (r : Printed) → PrintsText t (take 4864 w) (take 16384 b) o o₁ r → PrintsText t w b o o₁ r
   prints-front (Text n) h = (h .0, front-stored (h .0) (h .1), h .2, h .3, h .4)
   prints-front (Refused k p) h = (refused-front (h .0), h .1, h .2)
 

@@ -22,26 +22,30 @@ pub record Roomy (w b : List ℕ) : Type 0 where
 abbrev pub Stored : List ℕ → List ℕ → Ad → Type 0
 Stored w b a = Holds (take adWords w) (take adBytesRoom b) a
 
--- the printed text fits: it is not 'longer than the lent output or than 16,384'
-pub record Fitting (o : List ℕ) (a : Ad) : Type 0 where
-  pub lent : length (printedAd a) ≤ length o
-  pub bounded : length (printedAd a) ≤ textBytes
+-- the text t fits: it is not 'longer than the lent output or than 16,384'
+pub record Fitting (o t : List ℕ) : Type 0 where
+  pub lent : length t ≤ length o
+  pub bounded : length t ≤ textBytes
 
--- 'Printing checks 1, 10, then 11.'
-pub data Refuses (w b o : List ℕ) : ℕ → Type 0 where
+-- 'Printing checks 1, 10, then 11.' t gives the text that is to be written of an ad
+pub data Refuses (t : Ad → List ℕ) (w b o : List ℕ) : ℕ → Type 0 where
   -- 'lent room smaller than above'
-  small : ¬ (Roomy w b) → Refuses w b o 1
+  small : ¬ (Roomy w b) → Refuses t w b o 1
   -- 'stored numbers are no well-formed tree within the bounds above'
-  malformed : Roomy w b → ((a : Ad) → ¬ (Stored w b a)) → Refuses w b o 10
+  malformed : Roomy w b → ((a : Ad) → ¬ (Stored w b a)) → Refuses t w b o 10
   -- 'printed text longer than the lent output or than 16,384'
-  long : Roomy w b → {a : Ad} → Stored w b a → ¬ (Fitting o a) → Refuses w b o 11
+  long : Roomy w b → {a : Ad} → Stored w b a → ¬ (Fitting o (t a)) → Refuses t w b o 11
 
--- THE CONTRACT OF `print`: o′ is the output after it. The text stands in front and 'the bytes after it stay'; a refusal has the place
--- '0 for 1, 2, 10 and 11' and leaves 'all unchanged'.
+-- What a printer of the text t leaves: o′ is the output after it. The text stands in front and 'the bytes after it stay'; a refusal
+-- has the place '0 for 1, 2, 10 and 11' and leaves 'all unchanged'.
+abbrev pub PrintsText : (Ad → List ℕ) → List ℕ → List ℕ → List ℕ → List ℕ → Printed → Type 0
+PrintsText t w b o o′ (Text n) = (a : Ad) × Stored w b a × Fitting o (t a) × (n ≡ length (t a)) × (o′ ≡ t a ++ drop n o)
+PrintsText t w b o o′ (Refused k p) = Refuses t w b o k × (p ≡ 0) × (o′ ≡ o)
+
+-- THE CONTRACT OF `print`: the whole ad, '`[`, definitions as `name = expression` joined by `; `, `]`'
 abbrev pub Prints : List ℕ → List ℕ → List ℕ → List ℕ → Printed → Type 0
-Prints w b o o′ (Text n) = (a : Ad) × Stored w b a × Fitting o a × (n ≡ length (printedAd a)) × (o′ ≡ printedAd a ++ drop n o)
-Prints w b o o′ (Refused k p) = Refuses w b o k × (p ≡ 0) × (o′ ≡ o)
+Prints = PrintsText printedAd
 
 -- THE CONTRACT OF `text`: 'The text is handed back as the front part of the caller's output'; nothing of it where it is refused
 abbrev pub HandsBack : List ℕ → List ℕ → List ℕ → List ℕ → Type 0
-HandsBack w b o t = ((a : Ad) × Stored w b a × Fitting o a × (t ≡ printedAd a)) ⊎ ((k : ℕ) × Refuses w b o k × (t ≡ []))
+HandsBack w b o t = ((a : Ad) × Stored w b a × Fitting o (printedAd a) × (t ≡ printedAd a)) ⊎ ((k : ℕ) × Refuses printedAd w b o k × (t ≡ []))

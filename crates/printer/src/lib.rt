@@ -72,7 +72,7 @@ fn binding(words: &[u64], i: usize) -> usize
 }
 
 // Writes the tree whose last node is i.
-fn put_tree(words: &[u64], bytes: &[u8], i: usize, out: &mut [u8], at: usize) -> usize
+pub fn put_tree(words: &[u64], bytes: &[u8], i: usize, out: &mut [u8], at: usize) -> usize
     requires { ⌜ Fits printed (now words) (now bytes) i at ⌝ }
     ensures { λ r. ⌜ Written printed (now (words .entry)) (now (bytes .entry)) i at (now (out .entry)) (now (out .exit)) r ⌝ }
 {

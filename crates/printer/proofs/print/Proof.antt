@@ -1,6 +1,7 @@
 use mathlib.Core.Path.{sym}
 use Prim.Native.Nat.{_-_}
 use lib.Seq.{length-take-le}
+use Rattle.syntax.specs.Print.{printedAd}
 use Rattle.printer.proofs.Ads.{small-words, small-bytes, prints-front}
 use borrow.Author.Needs.{needs}
 use Rattle.printer.proofs.print.Statement.{statement}
@@ -10,10 +11,10 @@ use Rattle.printer.proofs.print.Lts as lts
 use Rattle.printer.proofs.print_room.Reads as print-room-reads
 
 returns : tie.Need-returns
-returns c = small-words (c .before .before .before .before .args .words .now) (c .before .before .before .before .args .bytes .now) _ (c .if1 .taken)
+returns c = small-words printedAd (c .before .before .before .before .args .words .now) (c .before .before .before .before .args .bytes .now) _ (c .if1 .taken)
 
 returns-2 : tie.Need-returns-2
-returns-2 c = small-bytes (c .before .before .before .before .before .args .words .now) (c .before .before .before .before .before .args .bytes .now) _ (c .if2 .taken)
+returns-2 c = small-bytes printedAd (c .before .before .before .before .before .args .words .now) (c .before .before .before .before .before .args .bytes .now) _ (c .if2 .taken)
 
 slice-aggregate-print-room : tie.Need-slice-aggregate-print-room
 slice-aggregate-print-room c = sym (length-take-le 4864 (c .before .before .before .before .before .before .args .words .now) (c .before .before .if1 .left))
@@ -25,7 +26,7 @@ print-room-requires : tie.Need-print-room-requires
 print-room-requires c κs = (length-take-le 4864 (c .before .before .before .before .before .before .before .before .args .words .now) (c .before .before .before .before .if1 .left), length-take-le 16384 (c .before .before .before .before .before .before .before .before .args .bytes .now) (c .before .before .before .if2 .left))
 
 returns-3 : tie.Need-returns-3
-returns-3 c = prints-front (c .before .before .before .before .before .before .before .before .before .before .before .args .words .now) (c .before .before .before .before .before .before .before .before .before .before .before .args .bytes .now) _ _ (c .before .before .before .before .before .before .before .if1 .left) (c .before .before .before .before .before .before .if2 .left) (c .before .before .print-room .result) (c .before .before .print-room .ensures)
+returns-3 c = prints-front printedAd (c .before .before .before .before .before .before .before .before .before .before .before .args .words .now) (c .before .before .before .before .before .before .before .before .before .before .before .args .bytes .now) _ _ (c .before .before .before .before .before .before .before .if1 .left) (c .before .before .before .before .before .before .if2 .left) (c .before .before .print-room .result) (c .before .before .print-room .ensures)
 
 pub print-spec : {M : Type 1} → statement M
 print-spec = tie.close (tie.spec
