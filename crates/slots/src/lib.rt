@@ -26,7 +26,7 @@ fn kind_of(v: Value) -> u64
 }
 
 // A Real's bits, with one pattern for not-a-number.
-fn bits_of(x: f64) -> u64
+pub fn bits_of(x: f64) -> u64
     ensures { λ r. ⌜ r ≡ toBits binary64 x ⌝ }
 {
     if x != x {

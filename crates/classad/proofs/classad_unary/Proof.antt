@@ -1,0 +1,19 @@
+-- `classad::classad_unary` meets its contract. Assumes nothing.
+use mathlib.Core.Path.{ap₂, subst, _∙_}
+use Rattle.classad.specs.Operators.{unarySlot}
+use Rattle.slots.specs.Packed.{Stored}
+use borrow.Author.Needs.{needs}
+use Rattle.classad.proofs.classad_unary.Statement.{statement}
+use Rattle.classad.proofs.classad_unary.Tie as tie
+
+returns : tie.Need-returns
+returns c =
+    let stored = c .before .before in
+    let made = stored .before in
+    let loaded = made .before in
+    let same = ap₂ unarySlot (loaded .before .unary-of .ensures) (loaded .load .ensures) in
+    subst (Stored _ _ 0) (made .unary-slot .ensures ∙ same) (stored .store .ensures)
+
+pub classad-unary-spec : {M : Type 1} → statement M
+classad-unary-spec = tie.close (tie.spec
+    (λ c κs. search needs) (λ c κs. search needs) (λ c κs. search needs) (λ c κs. search needs) (λ c. search needs) returns)

@@ -1,4 +1,0 @@
-pub mod Exports
-pub mod Reading
-pub mod Matching
-pub mod Printing

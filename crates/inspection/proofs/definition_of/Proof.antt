@@ -1,0 +1,48 @@
+-- `inspection::definition_of` meets its contract. Assumes nothing.
+use native.Mathlib.Omega.{arith}
+use mathlib.Core.Path.{_≡_, sym, _∙_, ap, subst}
+use Prim.Native.Nat.{ℕ, _-_, _≤_, _<_}
+use borrow.Author.Needs.{needs}
+use Rattle.inspection.proofs.Holders.{too-short, Searched, start, no-name, found, next, all-passed, long-enough}
+use Rattle.inspection.proofs.definition_of.Statement.{statement}
+use Rattle.inspection.proofs.definition_of.Tie as tie
+
+abbrev Inv-loop : tie.InvT-loop
+Inv-loop words node j₀ j = Searched words node 256 j
+
+abbrev μ-loop : tie.MeasureT-loop
+μ-loop words node j₀ j = 256 - j
+
+returns : tie.Need-returns Inv-loop μ-loop
+returns c = too-short (c .before .before .args .words .now) (c .before .before .args .node) (c .if1 .taken)
+
+loop-holds : tie.Need-loop-holds Inv-loop μ-loop
+loop-holds c = start _ _ 256
+
+name-length-requires : tie.Need-name-length-requires Inv-loop μ-loop
+name-length-requires c κs = (omega arith, c .before .before .if1 .left)
+
+returns-2 : tie.Need-returns-2 Inv-loop μ-loop
+returns-2 c = no-name (c .before .before .before .before .before .before .args .words .now) (c .before .before .before .before .before .before .args .node) 256 (c .before .before .before .loop .j) (c .before .before .before .loop .inv) (c .before .before .loop-test .taken) (sym (c .before .name-length .ensures) ∙ c .if2 .taken) ∙ long-enough (c .before .before .before .before .before .before .args .words .now) (c .before .before .before .before .before .before .args .node) (c .before .before .before .before .if1 .left)
+
+root-requires : tie.Need-root-requires Inv-loop μ-loop
+root-requires c κs = (omega arith, c .before .before .before .before .if1 .left)
+
+returns-3 : tie.Need-returns-3 Inv-loop μ-loop
+returns-3 c = found (c .before .before .before .before .before .before .before .before .args .words .now) (c .before .before .before .before .before .before .before .before .args .node) 256 (c .before .before .before .before .before .loop .j) (c .before .before .before .before .before .loop .inv) (c .before .before .before .before .loop-test .taken) (λ e. c .before .before .if2 .left (c .before .before .before .name-length .ensures ∙ e)) (subst (λ (x : ℕ). c .before .before .before .before .before .before .before .before .args .node ≤ x) (c .before .root .ensures) (c .if3 .taken)) ∙ long-enough (c .before .before .before .before .before .before .before .before .args .words .now) (c .before .before .before .before .before .before .before .before .args .node) (c .before .before .before .before .before .before .if1 .left)
+
+add-j : tie.Need-add-j Inv-loop μ-loop
+add-j c = omega arith
+
+loop-less : tie.Need-loop-less Inv-loop μ-loop
+loop-less c = omega arith
+
+loop-again : tie.Need-loop-again Inv-loop μ-loop
+loop-again c = next (c .before .before .before .before .before .before .before .before .args .words .now) (c .before .before .before .before .before .before .before .before .args .node) 256 (c .before .before .before .before .before .loop .j) (c .before .before .before .before .before .loop .inv) (c .before .before .before .before .loop-test .taken) (λ e. c .before .before .if2 .left (c .before .before .before .name-length .ensures ∙ e)) (subst (λ (x : ℕ). x < c .before .before .before .before .before .before .before .before .args .node) (c .before .root .ensures) (c .if3 .left))
+
+returns-4 : tie.Need-returns-4 Inv-loop μ-loop
+returns-4 c = all-passed (c .before .before .before .before .args .words .now) (c .before .before .before .before .args .node) 256 (c .before .loop .j) (c .before .loop .inv) (c .loop-test .left) ∙ long-enough (c .before .before .before .before .args .words .now) (c .before .before .before .before .args .node) (c .before .before .if1 .left)
+
+pub definition-of-spec : {M : Type 1} → statement M
+definition-of-spec = tie.close (tie.spec
+    Inv-loop μ-loop returns loop-holds name-length-requires returns-2 root-requires returns-3 add-j loop-less loop-again returns-4)

@@ -1,0 +1,65 @@
+-- The nodes of an ad one by one: which definition each belongs to, and its expression's text. w are the words of a stored ad. Assumes
+-- nothing.
+use Prim.Native.Nat.{ℕ, zero, suc, _-_}
+use mathlib.Core.Bool.{cond}
+use mathlib.Core.List.{List, [], _∷_, _++_}
+use lib.ListN.{length}
+use lib.Dec.{eqb, ltb, leb}
+use Rattle.syntax.specs.Bounds.{maxDefinitions}
+use Rattle.syntax.specs.Tree.{Expr, literal, reference, unary, binary, conditional, Ad, size}
+use Rattle.syntax.specs.Print.{printed}
+use Rattle.ad.specs.Layout.{adWords}
+use Rattle.ad.specs.Stored.{lengthAt, rootAt}
+use Rattle.inspection.specs.declared.Holder.{Holder}
+use Rattle.inspection.specs.declared.Holder.the-variants.{Definition, Nothing}
+
+-- ---- expressions
+
+-- the expressions of an expression's nodes by their numbers, operands first and itself last (docs/LAYOUT.md): 'A node is a literal, a
+-- reference or an operator.'
+unfoldable pub subexpressions : Expr → List Expr
+subexpressions (literal l) = literal l ∷ []
+subexpressions (reference s w) = reference s w ∷ []
+subexpressions (unary u a) = subexpressions a ++ (unary u a ∷ [])
+subexpressions (binary j a b) = subexpressions a ++ (subexpressions b ++ (binary j a b ∷ []))
+subexpressions (conditional a b c) = subexpressions a ++ (subexpressions b ++ (subexpressions c ++ (conditional a b c ∷ [])))
+
+-- those of an ad's nodes, definition after definition (docs/LAYOUT.md): 'A node is a literal, a reference or an operator.'
+unfoldable pub expressions : Ad → List Expr
+expressions [] = []
+expressions (d ∷ ds) = subexpressions (d .expression) ++ expressions ds
+
+-- the text of one of some expressions, by its number; empty where there is none: 'Parentheses only where the tree would otherwise
+-- read differently'
+unfoldable pub textAt : List Expr → ℕ → List ℕ
+textAt [] i = []
+textAt (e ∷ es) zero = printed e
+textAt (e ∷ es) (suc i) = textAt es i
+
+-- the text of the expression of node i, as it would be printed by itself: 'Parentheses only where the tree would otherwise read
+-- differently'
+abbrev pub nodeText : Ad → ℕ → List ℕ
+nodeText a i = textAt (expressions a) i
+
+-- ---- definitions
+
+-- the number of the definition, counted from j on, that node i belongs to, where i counts from the first of their nodes:
+-- 'definitions `name = expression`'
+unfoldable pub ownerFrom : ℕ → Ad → ℕ → Holder
+ownerFrom j [] i = Nothing
+ownerFrom j (d ∷ ds) i = cond (ltb i (size (d .expression))) (Definition j) (ownerFrom (suc j) ds (i - size (d .expression)))
+
+-- the definition that node i of an ad belongs to: 'definitions `name = expression`'
+abbrev pub owner : Ad → ℕ → Holder
+owner a i = ownerFrom 0 a i
+
+-- the first of k stored definitions, from definition j on, whose root is not below node i; none behind the last, whose name has no
+-- bytes (docs/LAYOUT.md: 'Layouts are the team's, written in docs/')
+unfoldable pub holderFrom : List ℕ → ℕ → ℕ → ℕ → Holder
+holderFrom w i j zero = Nothing
+holderFrom w i j (suc k) = cond (eqb (lengthAt w j) 0) Nothing (cond (leb i (rootAt w j)) (Definition j) (holderFrom w i (suc j) k))
+
+-- THE CONTRACT OF `definition_of`, over any words: the first definition whose root is not below the node; none where the words are
+-- fewer than an ad's, 'room for 1,024 nodes, 256 definitions'. Of a stored ad it is the node's `owner` (Laws/Owners.antt)
+abbrev pub holder : List ℕ → ℕ → Holder
+holder w i = cond (ltb (length w) adWords) Nothing (holderFrom w i 0 maxDefinitions)

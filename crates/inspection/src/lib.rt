@@ -1,0 +1,71 @@
+// What a stored ad shows of one of its nodes: the definition that it belongs to, and its expression's text.
+ghost use mathlib.Core.Path.{_≡_};
+ghost use lib.ListN.{length};
+ghost use Rattle.printer.specs.Prints.{PrintsText};
+ghost use Rattle.inspection.specs.Inspection.{nodeText, holder};
+use printer::Printed;
+use well_formed::Checked;
+
+// The definition that a node belongs to, by its number.
+pub enum Holder {
+    Definition(usize),
+    Nothing,
+}
+
+// The definition of a stored ad that a node belongs to.
+pub fn definition_of(words: &[u64], node: usize) -> Holder
+    ensures { λ r. ⌜ r ≡ holder (now (words .entry)) node ⌝ }
+{
+    if words.len() < ad::WORDS {
+        return Holder::Nothing;
+    }
+    let mut j = 0;
+    while j < 256 {
+        if ad::name_length(words, j) == 0 {
+            return Holder::Nothing;
+        }
+        if node <= ad::root(words, j) {
+            return Holder::Definition(j);
+        }
+        j += 1;
+    }
+    Holder::Nothing
+}
+
+// Prints the expression of a node over exactly the room of an ad.
+fn expression_room(words: &[u64], bytes: &[u8], node: usize, out: &mut [u8]) -> Printed
+    requires { ⌜ (length (now words) ≡ 4864) × (length (now bytes) ≡ 16384) ⌝ }
+    ensures { λ r. ⌜ PrintsText (λ a. nodeText a node) (now (words .entry)) (now (bytes .entry)) (now (out .entry)) (now (out .exit)) r ⌝ }
+{
+    let Checked::WellFormed(_, n, _) = well_formed::check(words, bytes) else {
+        return Printed::Refused(10, 0);
+    };
+    if n <= node {
+        return Printed::Text(0);
+    }
+    // Its length, as a refusal must leave the output unchanged.
+    let mut none = [0u8; 1];
+    let k = printer::put_tree(words, bytes, node, &mut none, 0);
+    if out.len() < k {
+        return Printed::Refused(11, 0);
+    }
+    if syntax::TEXT_BYTES < k {
+        return Printed::Refused(11, 0);
+    }
+    printer::put_tree(words, bytes, node, out, 0);
+    Printed::Text(k)
+}
+
+// Prints the expression of a node of any stored numbers into any output: the length of the text that then stands in front, 0 where
+// there is no such node; or a refusal.
+pub fn expression(words: &[u64], bytes: &[u8], node: usize, out: &mut [u8]) -> Printed
+    ensures { λ r. ⌜ PrintsText (λ a. nodeText a node) (now (words .entry)) (now (bytes .entry)) (now (out .entry)) (now (out .exit)) r ⌝ }
+{
+    if words.len() < ad::WORDS {
+        return Printed::Refused(1, 0);
+    }
+    if bytes.len() < ad::BYTES {
+        return Printed::Refused(1, 0);
+    }
+    expression_room(&words[..ad::WORDS], &bytes[..ad::BYTES], node, out)
+}
