@@ -21,6 +21,7 @@ ghost use lib.ListN.{length};
 ghost use Prim.Native.Nat.{min};
 ghost use mathlib.Core.Bool.{cond, not};
 use inspection::Holder;
+pub use inspection::definition_name;
 pub use inspection::definition_of;
 pub use inspection::expression;
 use matching::Outcome;

@@ -9,7 +9,7 @@ use Rattle.syntax.specs.Bounds.{maxDefinitions}
 use Rattle.syntax.specs.Tree.{Expr, literal, reference, unary, binary, conditional, Ad, size}
 use Rattle.syntax.specs.Print.{printed}
 use Rattle.ad.specs.Layout.{adWords}
-use Rattle.ad.specs.Stored.{lengthAt, rootAt}
+use Rattle.ad.specs.Stored.{offsetAt, lengthAt, rootAt, bytesAt}
 use Rattle.inspection.specs.declared.Holder.{Holder}
 use Rattle.inspection.specs.declared.Holder.the-variants.{Definition, Nothing}
 
@@ -63,3 +63,9 @@ holderFrom w i j (suc k) = cond (eqb (lengthAt w j) 0) Nothing (cond (leb i (roo
 -- fewer than an ad's, 'room for 1,024 nodes, 256 definitions'. Of a stored ad it is the node's `owner` (Laws/Owners.antt)
 abbrev pub holder : List ℕ → ℕ → Holder
 holder w i = cond (ltb (length w) adWords) Nothing (holderFrom w i 0 maxDefinitions)
+
+-- THE CONTRACT OF `definition_name`, over any words and bytes: the name of the definition that is found, empty where there is none: 'names
+-- as written'
+abbrev pub holderName : List ℕ → List ℕ → Holder → List ℕ
+holderName w b (Definition j) = bytesAt b (offsetAt w j) (lengthAt w j)
+holderName w b Nothing = []

@@ -2,7 +2,7 @@
 ghost use mathlib.Core.Path.{_≡_};
 ghost use lib.ListN.{length};
 ghost use Rattle.printer.specs.Prints.{PrintsText};
-ghost use Rattle.inspection.specs.Inspection.{nodeText, holder};
+ghost use Rattle.inspection.specs.Inspection.{nodeText, holder, holderName};
 use printer::Printed;
 use well_formed::Checked;
 
@@ -30,6 +30,16 @@ pub fn definition_of(words: &[u64], node: usize) -> Holder
         j += 1;
     }
     Holder::Nothing
+}
+
+// The name of the definition that a node belongs to, as a part of the ad's bytes; empty where there is none.
+pub fn definition_name<'a>(words: &[u64], bytes: &'a [u8], node: usize) -> &'a [u8]
+    ensures { λ r. ⌜ now r ≡ holderName (now (words .entry)) (now (bytes .entry)) (holder (now (words .entry)) node) ⌝ }
+{
+    match definition_of(words, node) {
+        Holder::Nothing => &bytes[..0],
+        Holder::Definition(j) => ad::part(bytes, ad::offset(words, j), ad::name_length(words, j)),
+    }
 }
 
 // Prints the expression of a node over exactly the room of an ad.

@@ -8,9 +8,11 @@ use lib.ListN.{length, replicate, length-append}
 use Rattle.text.specs.Bytes.{bytes, isDigit, isLetter, startsName, continuesName, lowerCase}
 use Rattle.text.specs.Strings.{sameName, sameBytes}
 use Rattle.syntax.specs.Tree.{integer, own, Expr, literal, reference, unary, binary, Ad, size, nodes}
-use Rattle.syntax.specs.Token.{Token, operator, constant, reserved}
+use Rattle.syntax.specs.Token.{Token, operator, constant, reserved, tokens}
 use Rattle.syntax.specs.Grammar.{defined, NewAfter, Within}
-use Rattle.syntax.specs.Reader.{accepted, read}
+use Rattle.syntax.specs.Bounds.{textBytes}
+use Rattle.syntax.specs.Reader.{accepted, read, Limits, limits, adAt}
+use Rattle.syntax.specs.Laws.Accepts.{ad-complete}
 use Rattle.syntax.specs.Print.{digits, literalText, referenceText, binaryText, unaryText, binds, printed, definitionsText, printedAd, levelOf, adLevel}
 use Rattle.syntax.specs.declared.Binary.the-variants.{Add, Multiply}
 use Rattle.syntax.specs.declared.Unary.the-variants.{Minus}
@@ -19,6 +21,8 @@ use Rattle.well_formed.specs.WellFormed.{isWritable, areWritable, Bounded}
 use Rattle.round_trip.specs.WithoutPair.{pair-here, pair-left, DefinitionsWithoutPair, pair-in-last}
 use Rattle.round_trip.specs.Printed.{exprTokens, parentheses}
 use Rattle.round_trip.specs.Laws.Parentheses.{append}
+use Rattle.round_trip.specs.Laws.Derives.{derives}
+use Rattle.round_trip.specs.Laws.Lexing.{printed-tokens}
 use Rattle.round_trip.specs.Laws.RoundTrip.{read-back}
 
 -- an ad with one definition, to print and read back: for 'definitions `name = expression`'
@@ -97,7 +101,26 @@ sum-read-back n h = read-back (only (sum n)) (only-bounded (sum n) (omega (arith
     fits : length (printedAd (only (sum n))) ≤ 16384
     fits = unfold printedAd definitionsText bytes in omega (arith, length-append (printed (sum n)) (93 ∷ []), sum-length n)
 
--- a sum of 1,000 terms has no parentheses either, and is not read, as it has 1,999 nodes: '1,024 nodes; .. one more is refused'
+-- document 01's limits, but for how many nodes there may be: for 'Two trees are equal when definitions, order, names as written, kinds
+-- and literals are equal', of trees beyond '1,024 nodes'
+abbrev pub withNodes : ℕ → Limits
+withNodes n = record { most-nodes = n; most-definitions = limits .most-definitions; taken = limits .taken }
+
+-- A SUM OF ANY LENGTH READS BACK under the reader that allows its nodes, by whatever else document 01 says: what its print comes to
+-- is no matter of parentheses or levels. Against the slip 'a sum of 100 terms reads back as refusal 6'
+pub sum-reads-back : (n : ℕ) → adAt (withNodes (n + n + 1)) (tokens (printedAd (only (sum n)))) ≡ accepted (only (sum n))
+unfolding nodes NewAfter defined
+sum-reads-back n =
+    let w : areWritable (only (sum n)) ≡ true = (unfold areWritable in rw (name-a, sum-written n) refl) in
+    let l : adLevel (only (sum n)) ≤ 64 = (unfold adLevel in omega (arith, sum-level n)) in
+    let t = printed-tokens (only (sum n)) w in
+    ad-complete (withNodes (n + n + 1)) (derives (only (sum n)) l) (tokens (printedAd (only (sum n)))) (t .0) (t .1) (omega (arith, sum-size n)) (omega arith) (refl, tt)
+
+-- so of 1,000 terms, whose print is within '16,384 bytes'
+pub sum-1000-reads-back : (adAt (withNodes 1999) (tokens (printedAd (only (sum 999)))) ≡ accepted (only (sum 999))) × (length (printedAd (only (sum 999))) ≤ textBytes)
+sum-1000-reads-back = (sum-reads-back 999, unfold printedAd definitionsText bytes in omega (arith, length-append (printed (sum 999)) (93 ∷ []), sum-length 999))
+
+-- but document 01's reader does not accept it, as it has 1,999 nodes: '1,024 nodes; .. one more is refused'
 pub sum-1000-large : Bounded (only (sum 999)) → ⊥
 sum-1000-large h = let k : size (sum 999) + 0 ≤ 1024 = (unfold nodes in h .within .few-nodes) in omega (arith, sum-size 999)
 

@@ -1,0 +1,32 @@
+use native.Mathlib.Omega.{arith}
+use mathlib.Core.Path.{_≡_, refl}
+use Prim.Native.Nat.{_-_, _+_, _*_, _≤_, _<_}
+use lib.ListN.{length}
+use borrow.Author.Needs.{needs}
+use Rattle.classad_cli.proofs.Reading.{moves-on}
+use Rattle.classad_cli.proofs.input.read_all.Statement.{statement}
+use Rattle.classad_cli.proofs.input.read_all.Tie as tie
+use Rattle.classad_cli.proofs.input.read_all.Reads as reads
+use Rattle.classad_cli.proofs.input.read_all.Lts as lts
+use Rattle.classad_cli.proofs.input.read_some.Reads as read-some-reads
+
+abbrev Inv-loop : tie.InvT-loop
+Inv-loop fd text₀ n₀ text n = (n ≤ length text₀) × (length text ≡ length text₀)
+
+abbrev μ-loop : tie.MeasureT-loop
+μ-loop fd text₀ n₀ text n = length text₀ - n
+
+add-n : tie.Need-add-n Inv-loop μ-loop
+add-n c = let g = moves-on (c .before .before .before .before .before .before .before .before .loop .text) (c .before .before .before .before .before .before .before .before .loop .n) (c .before .k .given .0 .0) _ (c .before .before .before .before .before .before .before .loop-test .taken) (c .before .k .given .1) (c .before .before .before .before .before .read-some .ensures) in omega arith
+
+loop-less : tie.Need-loop-less Inv-loop μ-loop
+loop-less c = let g = moves-on (c .before .before .before .before .before .before .before .before .loop .text) (c .before .before .before .before .before .before .before .before .loop .n) (c .before .k .given .0 .0) _ (c .before .before .before .before .before .before .before .loop-test .taken) (c .before .k .given .1) (c .before .before .before .before .before .read-some .ensures) in omega arith
+
+loop-again : tie.Need-loop-again Inv-loop μ-loop
+loop-again c = let g = moves-on (c .before .before .before .before .before .before .before .before .loop .text) (c .before .before .before .before .before .before .before .before .loop .n) (c .before .k .given .0 .0) _ (c .before .before .before .before .before .before .before .loop-test .taken) (c .before .k .given .1) (c .before .before .before .before .before .read-some .ensures) in (omega arith, search needs)
+
+pub read-all-spec : {M : Type 1} → statement M
+read-all-spec = tie.close (tie.spec
+    Inv-loop μ-loop (λ c. search needs) (λ c. search needs) (λ c. search needs) (λ c. search needs) (λ c κs. search needs) (λ c. search needs)
+    (λ c. search needs) (λ c. search needs) (λ c. search needs) (λ c. search needs) (λ c. search needs) (λ c. search needs) add-n loop-less loop-again
+    (λ c. search needs) (λ c. search needs))

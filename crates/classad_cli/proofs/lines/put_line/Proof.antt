@@ -1,0 +1,20 @@
+-- `classad_cli::lines::put_line` is safe and ends. Assumes nothing.
+use native.Mathlib.Omega.{arith}
+use mathlib.Core.Path.{_≡_, refl}
+use Prim.Native.Nat.{_-_, _+_, _*_, _≤_, _<_}
+use lib.ListN.{length}
+use borrow.Author.Needs.{needs}
+use Rattle.classad_cli.proofs.lines.put_line.Statement.{statement}
+use Rattle.classad_cli.proofs.lines.put_line.Tie as tie
+
+abbrev Inv-loop : tie.InvT-loop
+Inv-loop rest out₀ n₀ out n = length out ≡ length out₀
+
+abbrev μ-loop : tie.MeasureT-loop
+μ-loop rest out₀ n₀ out n = length out₀ - n
+
+pub put-line-spec : {M : Type 1} → statement M
+put-line-spec = tie.close (tie.spec
+    Inv-loop μ-loop (λ c. search needs) (λ c. search needs) (λ c. search needs) (λ c. search needs) (λ c. search needs) (λ c. search needs)
+    (λ c. search needs) (λ c κs. search needs) (λ c. search needs) (λ c. search needs) (λ c. search needs) (λ c. search needs) (λ c. search needs)
+    (λ c. search needs))

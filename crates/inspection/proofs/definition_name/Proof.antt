@@ -1,0 +1,63 @@
+-- `inspection::definition_name` meets its contract. Assumes nothing.
+use mathlib.Core.Path.{_∙_, sym, ap}
+use Rattle.inspection.specs.Inspection.{holderName}
+use Rattle.inspection.proofs.Holders.{holder-inside}
+use borrow.Author.Needs.{needs}
+use Rattle.inspection.proofs.definition_name.Statement.{statement}
+use Rattle.inspection.proofs.definition_name.Tie as tie
+use Rattle.inspection.proofs.definition_name.Reads as reads
+use Rattle.inspection.proofs.definition_name.Lts as lts
+use Rattle.ad.proofs.name_length.Reads as name-length-reads
+use Rattle.ad.proofs.offset.Reads as offset-reads
+use Rattle.ad.proofs.part.Reads as part-reads
+use Rattle.inspection.proofs.definition_of.Reads as definition-of-reads
+
+-- src/lib.rt:39:11
+definition-of-requires : tie.Need-definition-of-requires
+definition-of-requires c κs = search needs
+
+-- src/lib.rt:40:28
+enum-told : tie.Need-enum-told
+enum-told c = search needs
+
+-- src/lib.rt:40:28
+slice-aggregate-result : tie.Need-slice-aggregate-result
+slice-aggregate-result c = search needs
+
+-- src/lib.rt:41:28
+enum-known-j : tie.Need-enum-known-j
+enum-known-j c = search needs
+
+-- src/lib.rt:41:50
+offset-requires : tie.Need-offset-requires
+offset-requires c κs = holder-inside (c .before .before .before .before .before .before .args .words .now) (c .before .before .before .before .before .before .args .node) (c .before .j .given .0 .0) (sym (c .before .before .before .definition-of .ensures) ∙ c .before .j .given .1)
+
+-- src/lib.rt:41:72
+name-length-requires : tie.Need-name-length-requires
+name-length-requires c κs = holder-inside (c .before .before .before .before .before .before .before .args .words .now) (c .before .before .before .before .before .before .before .args .node) (c .before .before .j .given .0 .0) (sym (c .before .before .before .before .definition-of .ensures) ∙ c .before .before .j .given .1)
+
+-- src/lib.rt:41:34
+part-requires : tie.Need-part-requires
+part-requires c κs = search needs
+
+-- src/lib.rt:36:1
+returns : tie.Need-returns
+returns c = ap (holderName (c .before .before .before .before .before .before .args .words .now) (c .before .before .before .before .before .before .args .bytes .now)) (sym (c .before .enum-told .given .1) ∙ c .before .before .before .definition-of .ensures)
+
+-- src/lib.rt:36:1
+returns-2 : tie.Need-returns-2
+returns-2 c = c .part .ensures ∙ (rw (c .before .before .offset .ensures, c .before .name-length .ensures) (ap (holderName (c .before .before .before .before .before .before .before .before .before .args .words .now) (c .before .before .before .before .before .before .before .before .before .args .bytes .now)) (sym (c .before .before .before .before .j .given .1) ∙ c .before .before .before .before .before .before .definition-of .ensures)))
+
+pub definition-name-spec : {M : Type 1} → statement M
+definition-name-spec =
+    tie.close
+    (tie.spec
+    definition-of-requires
+    enum-told
+    slice-aggregate-result
+    enum-known-j
+    offset-requires
+    name-length-requires
+    part-requires
+    returns
+    returns-2)
