@@ -1,0 +1,35 @@
+//! ClassAds: reading, printing and matching over a proved library.
+//!
+//! ```
+//! use classad::{Ad, Match};
+//!
+//! let job: Ad = "[PulseWidth = 25; Requirements = true; Rank = other.Free]".parse()?;
+//! let bench: Ad = "[Free = 3; Requirements = !(other.PulseWidth > 50)]".parse()?;
+//! let matching = Match::new(&job, &bench);
+//! assert!(matching.is_matched());
+//! assert_eq!(matching.ranks(), Some((3, 0)));
+//! # Ok::<(), classad::Refusal>(())
+//! ```
+//!
+//! An [`Ad`] is well formed, whichever way it was made, so a match of two of them is never
+//! refused; whether it is finished depends on its budget, and only a finished [`Match`] has a
+//! verdict. The types own their memory and call the functions of [`sys`], which are proved as
+//! source in `crates/`; the types themselves are not proved but run.
+
+#![deny(missing_docs)]
+#![deny(unsafe_code)]
+
+mod ad;
+pub mod bounds;
+mod dependencies;
+mod matching;
+mod refusal;
+#[allow(unsafe_code)]
+pub mod sys;
+mod value;
+
+pub use ad::{Ad, Definition};
+pub use dependencies::Dependencies;
+pub use matching::{Entry, Match, Side};
+pub use refusal::{Position, Refusal};
+pub use value::Value;
