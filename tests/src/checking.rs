@@ -1,20 +1,21 @@
 //! Stored numbers: the library's check of them against the reference's.
 
+use crate::cases::Cases;
 use crate::layout::Stored;
-use crate::library;
 use crate::memory::Rooms;
 use crate::report::{Report, Table};
 use crate::sample::Sample;
 use crate::shrink::shrunk_samples;
 use crate::stored::{families, Samples};
-use crate::Cases;
+use classad::sys as library;
 use reference::print::printed_text;
+use reference::tree::Ad;
 
 const ANSWERS: [&str; 3] = ["accepted", "1", "10"];
 
 pub fn run(cases: &Cases) -> Report {
     let answers = Table::new("compared, by answer", &families(), &ANSWERS);
-    let mut report = Report::new("checking", cases.seed, vec![answers]);
+    let mut report = Report::new(cases, vec![answers]);
     let samples = Samples::new();
     for (index, mut rng) in cases.each() {
         let (family, sample) = samples.draw(&mut rng, 60);
@@ -50,23 +51,21 @@ fn both(sample: &Sample, rooms: &Rooms) -> (Outcome, Outcome) {
     library::check(&memory.words, &memory.bytes, &mut answer);
     let got = Outcome { answer, memory };
     let expected = Outcome {
-        answer: by_reference(sample, rooms),
+        answer: expected(rooms.tree(sample).as_ref()),
         memory: before,
     };
     (got, expected)
 }
 
-fn by_reference(sample: &Sample, rooms: &Rooms) -> [u64; 4] {
-    if !rooms.suffice() {
-        return [1, 0, 0, 0];
-    }
-    match sample.tree() {
-        None => [10, 0, 0, 0],
-        Some(ad) => {
+/// The answer for a tree, or for the refusal of its memory.
+pub fn expected(tree: Result<&Ad, &u64>) -> [u64; 4] {
+    match tree {
+        Err(number) => [*number, 0, 0, 0],
+        Ok(ad) => {
             let counts = [
                 ad.definitions.len(),
                 ad.node_count(),
-                printed_text(&ad).len(),
+                printed_text(ad).len(),
             ];
             let [definitions, nodes, length] = counts.map(|count| count as u64);
             [0, definitions, nodes, length]
@@ -75,7 +74,7 @@ fn by_reference(sample: &Sample, rooms: &Rooms) -> [u64; 4] {
 }
 
 fn describe(sample: &Sample, rooms: &Rooms) -> String {
-    let [small] = shrunk_samples(&[sample.clone()], |[sample]| {
+    let [small] = shrunk_samples(std::array::from_ref(sample), |[sample]| {
         let (got, expected) = both(sample, rooms);
         got != expected
     });

@@ -1,15 +1,15 @@
 //! Circular references and the list of two ads, against the reference's plain reachability
 //! and recursive list.
 
+use crate::cases::Cases;
 use crate::layout::Stored;
-use crate::library;
 use crate::matching::list_words;
 use crate::memory::{noise_words, size};
 use crate::pairs::{most_transitions, Pair, FAMILIES};
 use crate::report::{first_difference, Report, Table};
 use crate::shrink::shrunk_samples;
 use crate::stored::Samples;
-use crate::Cases;
+use classad::sys as library;
 use reference::bounds::{self, SLOTS};
 use reference::graph;
 use reference::rng::Rng;
@@ -19,7 +19,7 @@ const ANSWERS: [&str; 4] = ["loops", "no loop", "1", "10"];
 
 pub fn run(cases: &Cases) -> Report {
     let answers = Table::new("compared, by answer", &FAMILIES, &ANSWERS);
-    let mut report = Report::new("dependencies", cases.seed, vec![answers]);
+    let mut report = Report::new(cases, vec![answers]);
     let stored = Samples::new();
     for (index, mut rng) in cases.each() {
         let (family, pair) = Pair::draw(&mut rng, &stored);
@@ -120,10 +120,21 @@ fn by_library(call: &Call, ads: [Stored; 2]) -> Outcome {
     }
 }
 
-/// A refusal leaves all unchanged.
 fn by_reference(call: &Call, trees: &Result<[Ad; 2], u64>, ads: [Stored; 2]) -> Outcome {
     let [mut flags, mut list] = call.rooms();
-    let answer = match trees {
+    let answer = expected(trees, &mut flags, &mut list);
+    Outcome {
+        answer,
+        flags,
+        list,
+        ads,
+    }
+}
+
+/// The answer without transitions, and in flags and list what they should hold; a refusal
+/// leaves all unchanged.
+pub fn expected(trees: &Result<[Ad; 2], u64>, flags: &mut [u64], list: &mut [u64]) -> [u64; 3] {
+    match trees {
         Err(number) => [*number, 0, 0],
         Ok([first, second]) => {
             let pair = graph::Pair::new(first, second);
@@ -135,12 +146,6 @@ fn by_reference(call: &Call, trees: &Result<[Ad; 2], u64>, ads: [Stored; 2]) -> 
             list[..SLOTS].copy_from_slice(&list_words(&order));
             [0, 0, order.len() as u64]
         }
-    };
-    Outcome {
-        answer,
-        flags,
-        list,
-        ads,
     }
 }
 

@@ -31,13 +31,19 @@ impl Stored {
             let root = numbered.roots[number];
             let at = NODE_WORDS + 3 * number;
             stored.words[at..at + 3].copy_from_slice(&[offset, length, root as u64]);
-            for node in &numbered.nodes[nodes..=root] {
-                let words = stored.node(node, &mut used);
-                stored.words[4 * nodes..4 * nodes + 4].copy_from_slice(&words);
-                nodes += 1;
-            }
+            stored.put_nodes(nodes, &numbered.nodes[nodes..=root], &mut used);
+            nodes = root + 1;
         }
         stored
+    }
+
+    /// Puts the nodes of a definition, the first of which has this number.
+    fn put_nodes(&mut self, first: usize, nodes: &[Node], used: &mut usize) {
+        for (number, node) in nodes.iter().enumerate() {
+            let at = 4 * (first + number);
+            let words = self.node(node, used);
+            self.words[at..at + 4].copy_from_slice(&words);
+        }
     }
 
     /// Puts a name or string behind those before it; answers its offset and length.

@@ -1,12 +1,14 @@
 //! Compares the proved library with the reference on seeded inputs. Case number `index` of
 //! a run depends on the seed and the index alone, so that each can be repeated by itself.
 
+mod boundary;
+mod cases;
 mod checking;
+mod commands;
 mod damage;
 mod decode;
 mod dependencies;
 mod layout;
-mod library;
 mod matching;
 mod memory;
 mod pairs;
@@ -17,18 +19,16 @@ mod sample;
 mod shrink;
 mod slot;
 mod stored;
-mod timing;
 mod values;
 
-use reference::rng::Rng;
+use cases::Cases;
 use report::Report;
 use std::process::ExitCode;
 
 const USAGE: &str = "usage: tests/run NAME SEED COUNT [FROM]
-       tests/run timing WHAT COUNT
-NAME is values, reading, checking, printing, dependencies or matching.
-COUNT cases of SEED, from number FROM on (0 without it).
-WHAT is reading, printing or matching; each text or pair COUNT times.
+       tests/run all SEED COUNT
+NAME is values, reading, checking, printing, dependencies, matching, boundary or commands.
+COUNT cases of SEED, from number FROM on (0 without it); for all of them COUNT is shared out.
 ";
 
 /// All compared and no difference; some difference, or nothing compared; a wrong command line.
@@ -36,67 +36,77 @@ const SAME: u8 = 0;
 const DIFFERENT: u8 = 1;
 const FAULT: u8 = 2;
 
-/// Which cases a run makes.
-pub struct Cases {
-    pub seed: u64,
-    pub from: u64,
-    pub count: u64,
+/// A run, and how many of every 1,000 cases of `all` are its own.
+struct Run {
+    name: &'static str,
+    run: fn(&Cases) -> Report,
+    share: u64,
 }
 
-impl Cases {
-    fn of(words: &[String]) -> Option<Cases> {
-        let number = |at: usize| words.get(at)?.parse::<u64>().ok();
-        let from = if words.len() < 3 { 0 } else { number(2)? };
-        let (seed, count) = (number(0)?, number(1)?);
-        from.checked_add(count)?;
-        (words.len() <= 3).then_some(Cases { seed, from, count })
-    }
+/// Cheap cases have large shares, so that each run takes seconds of a short `all`; a case of
+/// `commands` starts several programs.
+const RUNS: [Run; 8] = [
+    of("values", values::run, 246),
+    of("reading", reading::run, 100),
+    of("checking", checking::run, 250),
+    of("printing", printing::run, 100),
+    of("dependencies", dependencies::run, 100),
+    of("matching", matching::run, 100),
+    of("boundary", boundary::run, 100),
+    of("commands", commands::run, 4),
+];
 
-    /// The index of each case, with its own generator of numbers.
-    fn each(&self) -> impl Iterator<Item = (u64, Rng)> + '_ {
-        (self.from..self.from + self.count).map(|index| {
-            let start = Rng::new(self.seed).bits() ^ Rng::new(!index).bits();
-            (index, Rng::new(start))
-        })
-    }
+const fn of(name: &'static str, run: fn(&Cases) -> Report, share: u64) -> Run {
+    Run { name, run, share }
 }
 
 fn main() -> ExitCode {
     let words: Vec<String> = std::env::args().skip(1).collect();
-    if let Some(text) = timed(&words) {
-        print!("{text}");
-        return ExitCode::from(SAME);
-    }
-    let Some((name, Some(cases))) = words
-        .split_first()
-        .map(|(name, rest)| (name, Cases::of(rest)))
-    else {
-        eprint!("{USAGE}");
-        return ExitCode::from(FAULT);
+    let Some((name, numbers)) = words.split_first() else {
+        return usage();
     };
-    let report = match name.as_str() {
-        "values" => values::run(&cases),
-        "reading" => reading::run(&cases),
-        "checking" => checking::run(&cases),
-        "printing" => printing::run(&cases),
-        "dependencies" => dependencies::run(&cases),
-        "matching" => matching::run(&cases),
-        _ => {
-            eprint!("{USAGE}");
-            return ExitCode::from(FAULT);
-        }
-    };
-    finish(&report)
-}
-
-fn timed(words: &[String]) -> Option<String> {
-    match words {
-        [timing, name, count] if timing == "timing" => timing::run(name, count.parse().ok()?),
+    let one = RUNS.iter().find(|run| run.name == name.as_str());
+    let good = match (one, name.as_str(), numbers) {
+        (Some(run), _, numbers) => Cases::of(run.name, numbers).map(|cases| finish(run, &cases)),
+        (None, "all", [seed, count]) => all(seed, count),
         _ => None,
+    };
+    match good {
+        Some(true) => ExitCode::from(SAME),
+        Some(false) => ExitCode::from(DIFFERENT),
+        None => usage(),
     }
 }
 
-fn finish(report: &Report) -> ExitCode {
+fn usage() -> ExitCode {
+    eprint!("{USAGE}");
+    ExitCode::from(FAULT)
+}
+
+/// Makes a run and prints its report; whether all was the same.
+fn finish(run: &Run, cases: &Cases) -> bool {
+    let report = (run.run)(cases);
     print!("{}", report.text());
-    ExitCode::from(if report.good() { SAME } else { DIFFERENT })
+    report.good()
+}
+
+/// All runs with their shares of the cases, at least one case each. A run with a difference
+/// does not keep the others from running.
+fn all(seed: &str, count: &str) -> Option<bool> {
+    let (seed, count) = (seed.parse().ok()?, count.parse::<u64>().ok()?);
+    let mut bad = Vec::new();
+    for run in &RUNS {
+        let count = count.checked_mul(run.share)?.div_ceil(1_000);
+        let cases = Cases::new(run.name, seed, 0, count);
+        if !finish(run, &cases) {
+            bad.push(run.name);
+        }
+        println!();
+    }
+    let (runs, names) = (RUNS.len(), bad.join(", "));
+    match bad.len() {
+        0 => println!("all of seed {seed}: {runs} runs, no difference"),
+        count => println!("all of seed {seed}: {runs} runs, {count} not good: {names}"),
+    }
+    Some(bad.is_empty())
 }

@@ -1,7 +1,9 @@
 //! Lent memory before a call: its sizes, and the noise that it holds.
 
 use crate::layout::{self, Stored};
+use crate::sample::Sample;
 use reference::rng::Rng;
+use reference::tree::Ad;
 
 /// The same words for the same seed.
 pub fn noise_words(seed: u64, length: usize) -> Vec<u64> {
@@ -23,6 +25,15 @@ pub fn size(rng: &mut Rng, required: usize, short: bool) -> usize {
         (false, true) => required,
         (false, false) => required + rng.below(100),
     }
+}
+
+/// Whether so many words and bytes are room for an ad.
+fn suffice(words: usize, bytes: usize) -> bool {
+    words >= layout::WORDS && bytes >= layout::BYTES
+}
+
+pub fn has_room(words: &[u64], bytes: &[u8]) -> bool {
+    suffice(words.len(), bytes.len())
 }
 
 /// Memory for an ad: its sizes, and the seed of its noise.
@@ -49,7 +60,15 @@ impl Rooms {
     }
 
     pub fn suffice(&self) -> bool {
-        self.words >= layout::WORDS && self.bytes >= layout::BYTES
+        suffice(self.words, self.bytes)
+    }
+
+    /// The tree of a stored ad in this memory; or the number of the refusal, 1 before 10.
+    pub fn tree(&self, sample: &Sample) -> Result<Ad, u64> {
+        if !self.suffice() {
+            return Err(1);
+        }
+        sample.tree().ok_or(10)
     }
 
     pub fn noise(&self) -> Stored {

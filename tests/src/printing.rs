@@ -1,17 +1,18 @@
 //! Prints of stored ads: the library's against the reference's, with the whole output, and
 //! the print read back.
 
+use crate::cases::Cases;
 use crate::layout::Stored;
-use crate::library;
 use crate::memory::{noise_bytes, Rooms};
 use crate::report::{first_difference, plain, Report, Table};
 use crate::sample::Sample;
 use crate::shrink::shrunk_samples;
 use crate::stored::{families, Samples};
-use crate::Cases;
+use classad::sys as library;
 use reference::bounds::{self, AdRoom};
 use reference::print::{print_into, printed_text};
 use reference::rng::Rng;
+use reference::tree::{Ad, Definition, Expression};
 
 const ANSWERS: [&str; 4] = ["printed", "1", "10", "11"];
 const READ_BACK: &str = "print read back";
@@ -24,7 +25,7 @@ pub fn run(cases: &Cases) -> Report {
     rows.push(READ_BACK);
     let answers = Table::new("compared, by answer", &rows, &ANSWERS);
     let outputs = Table::new("output", &OUTPUTS, &ANSWERS);
-    let mut report = Report::new("printing", cases.seed, vec![answers, outputs]);
+    let mut report = Report::new(cases, vec![answers, outputs]);
     let samples = Samples::new();
     for (index, mut rng) in cases.each() {
         let (family, sample) = samples.draw(&mut rng, 8);
@@ -131,25 +132,48 @@ fn both(sample: &Sample, rooms: &Rooms, output: &Output) -> (Outcome, Outcome) {
     (got, by_reference(sample, rooms, noise, before))
 }
 
-/// The text stands in front and the bytes after it stay; a refusal leaves all unchanged.
 fn by_reference(sample: &Sample, rooms: &Rooms, noise: Vec<u8>, memory: Stored) -> Outcome {
     let mut output = noise;
-    let answer = match (rooms.suffice(), sample.tree()) {
-        (false, _) => [1, 0],
-        (true, None) => [10, 0],
-        (true, Some(ad)) => match print_into(AdRoom::REQUIRED, &ad, output.len()) {
-            Ok(text) => {
-                output[..text.len()].copy_from_slice(&text);
-                [0, text.len() as u64]
-            }
-            Err(refusal) => [refusal.number() as u64, 0],
-        },
-    };
+    let answer = expected(rooms.tree(sample).as_ref(), &mut output);
     Outcome {
         answer,
         output,
         memory,
     }
+}
+
+/// The answer for a tree, or for the refusal of its memory; and in the output what it should
+/// hold.
+pub fn expected(tree: Result<&Ad, &u64>, output: &mut [u8]) -> [u64; 2] {
+    let text = tree.map_err(|number| *number).and_then(|ad| {
+        let text = print_into(AdRoom::REQUIRED, ad, output.len());
+        text.map_err(|refusal| refusal.number() as u64)
+    });
+    written(text, output)
+}
+
+/// The text stands in front and the bytes after it stay; a refusal leaves all unchanged.
+pub fn written(text: Result<Vec<u8>, u64>, output: &mut [u8]) -> [u64; 2] {
+    match text {
+        Err(number) => [number, 0],
+        Ok(text) => {
+            output[..text.len()].copy_from_slice(&text);
+            [0, text.len() as u64]
+        }
+    }
+}
+
+/// The print of an expression by itself: what the print of an ad with that one expression has
+/// between name and bracket.
+pub fn expression_text(expression: &Expression) -> Vec<u8> {
+    let definition = Definition {
+        name: b"a".to_vec(),
+        expression: expression.clone(),
+    };
+    let printed = printed_text(&Ad {
+        definitions: vec![definition],
+    });
+    printed["[a = ".len()..printed.len() - 1].to_vec()
 }
 
 /// The library reads its print, and the memory is again that of the ad.
@@ -164,7 +188,7 @@ fn reads_back(text: &[u8], sample: &Sample, rooms: &Rooms) -> bool {
 }
 
 fn describe(sample: &Sample, rooms: &Rooms, output: &Output) -> String {
-    let [small] = shrunk_samples(&[sample.clone()], |[sample]| {
+    let [small] = shrunk_samples(std::array::from_ref(sample), |[sample]| {
         let (got, expected) = both(sample, rooms, output);
         got != expected
     });

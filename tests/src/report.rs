@@ -1,6 +1,7 @@
 //! What a run has compared, counted in tables, and the first differences.
 
-use std::fmt::Write;
+use crate::cases::{replay, Cases};
+use std::fmt::{Display, Write};
 
 /// How many differences of one row are shown.
 const SHOWN: usize = 3;
@@ -33,25 +34,24 @@ impl Table {
     }
 
     fn text(&self) -> String {
-        let mut text = format!("{:<22}", self.title);
-        for column in &self.columns {
-            write!(text, " {column:>9}").unwrap();
-        }
-        text.push_str("       all\n");
+        let mut text = format!("{:<22}{}\n", self.title, cells(&self.columns, "all"));
         for (row, name) in self.rows.iter().enumerate() {
-            write!(text, "  {name:<20}").unwrap();
-            for count in self.row(row) {
-                write!(text, " {count:>9}").unwrap();
-            }
-            writeln!(text, " {:>9}", self.row(row).iter().sum::<u64>()).unwrap();
+            let counts = self.row(row);
+            let all = counts.iter().sum::<u64>();
+            writeln!(text, "  {name:<20}{}", cells(counts, all)).unwrap();
         }
         text
     }
 }
 
+fn cells(cells: &[impl Display], last: impl Display) -> String {
+    let cells = cells.iter().map(|cell| format!(" {cell:>9}"));
+    cells.collect::<String>() + &format!(" {last:>9}")
+}
+
 /// A run's result.
 pub struct Report {
-    pub name: &'static str,
+    name: &'static str,
     seed: u64,
     pub tables: Vec<Table>,
     compared: u64,
@@ -63,11 +63,11 @@ pub struct Report {
 
 impl Report {
     /// The first table has a row for each thing compared, the columns being its answers.
-    pub fn new(name: &'static str, seed: u64, tables: Vec<Table>) -> Report {
+    pub fn new(cases: &Cases, tables: Vec<Table>) -> Report {
         let by_row = vec![0; tables[0].rows.len()];
         Report {
-            name,
-            seed,
+            name: cases.name,
+            seed: cases.seed,
             tables,
             compared: 0,
             different: 0,
@@ -102,8 +102,13 @@ impl Report {
             for line in describe().lines() {
                 writeln!(self.shown, "  {line}").unwrap();
             }
-            writeln!(self.shown, "  again: tests/run {name} {seed} 1 {index}").unwrap();
+            writeln!(self.shown, "  again: {}", replay(name, seed, index)).unwrap();
         }
+    }
+
+    /// A line of its own.
+    pub fn note(&mut self, line: &str) {
+        writeln!(self.shown, "{line}").unwrap();
     }
 
     /// A run that compared nothing is not good either.
@@ -112,10 +117,7 @@ impl Report {
     }
 
     pub fn text(&self) -> String {
-        let mut text = String::new();
-        for table in &self.tables {
-            text.push_str(&table.text());
-        }
+        let mut text: String = self.tables.iter().map(Table::text).collect();
         text.push_str(&self.shown);
         for (row, count) in self.by_row.iter().enumerate() {
             if *count > 0 {

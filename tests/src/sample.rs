@@ -18,6 +18,15 @@ pub enum Change {
     Byte { at: usize, value: u8 },
 }
 
+/// Where memory has become another, and what.
+fn changed<'a, T: Copy + PartialEq>(
+    before: &'a [T],
+    after: &'a [T],
+) -> impl Iterator<Item = (usize, T)> + 'a {
+    let all = after.iter().copied().enumerate();
+    all.filter(|(at, value)| *value != before[*at])
+}
+
 /// The ad need not be well formed, but has room in memory.
 #[derive(Clone)]
 pub struct Sample {
@@ -34,17 +43,11 @@ impl Sample {
     /// An ad whose memory has become this.
     pub fn damaged(ad: Ad, memory: &Stored) -> Sample {
         let before = Stored::of(&ad);
-        let mut changes = Vec::new();
-        for (at, &value) in memory.words.iter().enumerate() {
-            if value != before.words[at] {
-                changes.push(Change::Word { at, value });
-            }
-        }
-        for (at, &value) in memory.bytes.iter().enumerate() {
-            if value != before.bytes[at] {
-                changes.push(Change::Byte { at, value });
-            }
-        }
+        let words = changed(&before.words, &memory.words);
+        let words = words.map(|(at, value)| Change::Word { at, value });
+        let bytes = changed(&before.bytes, &memory.bytes);
+        let bytes = bytes.map(|(at, value)| Change::Byte { at, value });
+        let changes = words.chain(bytes).collect();
         Sample { ad, changes }
     }
 

@@ -9,19 +9,27 @@ const TRIES: usize = 2_000;
 /// Leaves out parts, larger ones first, as long as `differs` holds of the rest, and again
 /// until no part is left to leave out.
 pub fn shrunk<T: Clone>(items: &[T], differs: impl Fn(&[T]) -> bool) -> Vec<T> {
+    shrunk_within(items, TRIES, differs)
+}
+
+pub fn shrunk_within<T: Clone>(
+    items: &[T],
+    mut tries: usize,
+    differs: impl Fn(&[T]) -> bool,
+) -> Vec<T> {
     let mut small = items.to_vec();
-    let mut tries = TRIES;
     loop {
         let before = small.len();
-        let mut size = before;
-        while size > 0 {
-            without_parts(&mut small, size, &mut tries, &differs);
-            size /= 2;
-        }
+        halves(before).for_each(|size| without_parts(&mut small, size, &mut tries, &differs));
         if small.len() == before || tries == 0 {
             return small;
         }
     }
+}
+
+/// A size, its half, and so on down to 1.
+fn halves(size: usize) -> impl Iterator<Item = usize> {
+    std::iter::successors(Some(size), |size| Some(size / 2)).take_while(|&size| size > 0)
 }
 
 /// Leaves out parts of this size.
@@ -77,19 +85,32 @@ fn with_small_expressions<const N: usize>(
     differs: impl Fn(&[Sample; N]) -> bool,
 ) {
     let mut tries = TRIES;
-    for number in 0..N {
-        for place in 0..samples[number].ad.definitions.len() {
-            let mut node = 0;
-            while node < samples[number].ad.node_count() && tries > 0 {
-                tries -= 1;
-                let small = (0..3)
-                    .filter_map(|operand| with_operand(samples, number, place, node, operand))
-                    .find(&differs);
-                match small {
-                    Some(small) => *samples = small,
-                    None => node += 1,
-                }
-            }
+    let places = |number: usize| samples[number].ad.definitions.len();
+    let all: Vec<(usize, usize)> = (0..N)
+        .flat_map(|number| (0..places(number)).map(move |place| (number, place)))
+        .collect();
+    for (number, place) in all {
+        with_small_expression(samples, number, place, &mut tries, &differs);
+    }
+}
+
+/// Puts operands in place of the operators of one definition.
+fn with_small_expression<const N: usize>(
+    samples: &mut [Sample; N],
+    number: usize,
+    place: usize,
+    tries: &mut usize,
+    differs: impl Fn(&[Sample; N]) -> bool,
+) {
+    let mut node = 0;
+    while node < samples[number].ad.node_count() && *tries > 0 {
+        *tries -= 1;
+        let small = (0..3)
+            .filter_map(|operand| with_operand(samples, number, place, node, operand))
+            .find(&differs);
+        match small {
+            Some(small) => *samples = small,
+            None => node += 1,
         }
     }
 }

@@ -1,17 +1,17 @@
 //! Matches: the library's answer, the whole table and list that it leaves, and all other
 //! memory, against the reference's; and the same with the ads exchanged.
 
-mod call;
+pub mod call;
 
+use crate::cases::Cases;
 use crate::layout::Stored;
-use crate::library;
 use crate::pairs::{most_transitions, Pair, FAMILIES};
 use crate::report::{first_difference, Report, Table};
 use crate::shrink::shrunk_samples;
 use crate::slot::{self, Words, KINDS};
 use crate::stored::Samples;
-use crate::Cases;
 use call::{Call, BUDGETS, LIST, TABLE};
+use classad::sys as library;
 use reference::bounds;
 use reference::graph::{self, NodeId};
 use reference::matching::{match_pair, Match};
@@ -27,7 +27,7 @@ pub fn run(cases: &Cases) -> Report {
         Table::new("budget", &BUDGETS, &ANSWERS),
         Table::new("slots worked out", &["first ad", "second ad"], &KINDS[1..]),
     ];
-    let mut report = Report::new("matching", cases.seed, tables);
+    let mut report = Report::new(cases, tables);
     let stored = Samples::new();
     for (index, mut rng) in cases.each() {
         let (family, pair) = Pair::draw(&mut rng, &stored);
@@ -108,7 +108,7 @@ fn both(call: &Call) -> (Outcome, Outcome) {
 }
 
 /// The reference's view of two ads, or the number of the refusal.
-type Graph<'a> = Result<graph::Pair<'a>, &'a u64>;
+pub type Graph<'a> = Result<graph::Pair<'a>, &'a u64>;
 
 fn budget(call: &Call, graph: &Graph) -> u16 {
     let length = graph
@@ -137,23 +137,33 @@ fn by_library(call: &Call, budget: u16, ads: [Stored; 2]) -> Outcome {
     }
 }
 
-/// A refusal leaves all unchanged.
 fn by_reference(call: &Call, graph: &Graph, budget: u16, ads: [Stored; 2]) -> Outcome {
     let [mut table, mut list] = call.rooms();
-    let answer = match graph {
-        Err(number) => [**number, 0, 0, 0, 0, 0, 0],
-        Ok(graph) => {
-            let result = match_pair(graph, budget);
-            table[..TABLE].copy_from_slice(&table_words(&result, &ads));
-            list[..LIST].copy_from_slice(&list_words(&result.order));
-            numbers(&result)
-        }
-    };
+    let answer = expected(graph, budget, &ads, [&mut table, &mut list]);
     Outcome {
         answer,
         table,
         list,
         ads,
+    }
+}
+
+/// The answer without transitions, and in table and list what they should hold; a refusal
+/// leaves all unchanged.
+pub fn expected(
+    graph: &Graph,
+    budget: u16,
+    ads: &[Stored; 2],
+    [table, list]: [&mut [u64]; 2],
+) -> [u64; 7] {
+    match graph {
+        Err(number) => [**number, 0, 0, 0, 0, 0, 0],
+        Ok(graph) => {
+            let result = match_pair(graph, budget);
+            table[..TABLE].copy_from_slice(&table_words(&result, ads));
+            list[..LIST].copy_from_slice(&list_words(&result.order));
+            numbers(&result)
+        }
     }
 }
 

@@ -53,13 +53,18 @@ impl Texts {
             92..=95 => 9,
             _ => 10,
         };
-        let text = match family {
+        let text = self.text(rng, family);
+        Text { family, text }
+    }
+
+    fn text(&self, rng: &mut Rng, family: usize) -> Vec<u8> {
+        match family {
             0 => printed_text(&ads::small_ad(rng)),
             1 => spelled(rng),
             2 => in_bounds(rng, |rng| ads::rich_pair(rng).0),
             3 if rng.chance(50) => in_bounds(rng, |rng| ads::large_pair(rng).0),
             3 => in_bounds(rng, |rng| ads::full_pair(rng).0),
-            4 => rng.pick(&self.edges).clone(),
+            4 => self.edge(rng),
             5 => {
                 let whole = spelled(rng);
                 damage::damaged(rng, &whole).1
@@ -70,14 +75,17 @@ impl Texts {
                 damage::damaged_tokens(rng, &tokens).1
             }
             7 => {
-                let whole = rng.pick(&self.edges).clone();
+                let whole = self.edge(rng);
                 damage::damaged(rng, &whole).1
             }
             8 => damage::random_tokens(rng),
             9 => damage::random_bytes(rng),
             _ => rules_meet(rng),
-        };
-        Text { family, text }
+        }
+    }
+
+    pub fn edge(&self, rng: &mut Rng) -> Vec<u8> {
+        rng.pick(&self.edges).clone()
     }
 }
 
@@ -89,11 +97,15 @@ fn spelled(rng: &mut Rng) -> Vec<u8> {
 /// In odd spelling where the text's bound allows, otherwise as printed.
 fn in_bounds(rng: &mut Rng, make: fn(&mut Rng) -> Ad) -> Vec<u8> {
     let ad = make(rng);
-    let odd = spelling::spelled(rng, &ad);
+    text_of(rng, &ad)
+}
+
+pub fn text_of(rng: &mut Rng, ad: &Ad) -> Vec<u8> {
+    let odd = spelling::spelled(rng, ad);
     if odd.len() <= bounds::TEXT_BYTES {
         odd
     } else {
-        printed_text(&ad)
+        printed_text(ad)
     }
 }
 

@@ -1,23 +1,22 @@
 //! Texts: the library's answer and the whole memory that it leaves, against the reference's.
 
-mod draw;
+pub mod draw;
 
+use crate::cases::Cases;
 use crate::layout::{self, Stored};
-use crate::library;
-use crate::memory::Rooms;
+use crate::memory::{has_room, Rooms};
 use crate::report::{first_difference, Report, Table};
 use crate::shrink::shrunk;
-use crate::Cases;
+use classad::sys as library;
 use draw::{Text, Texts, FAMILIES};
-use reference::bounds::AdRoom;
-use reference::read::read_into;
+use reference::read::read;
 
 /// Answers by number: 0 is accepted, the others are refusals.
 const ANSWERS: [&str; 10] = ["accepted", "1", "2", "3", "4", "5", "6", "7", "8", "9"];
 
 pub fn run(cases: &Cases) -> Report {
     let answers = Table::new("compared, by answer", &FAMILIES, &ANSWERS);
-    let mut report = Report::new("reading", cases.seed, vec![answers]);
+    let mut report = Report::new(cases, vec![answers]);
     let texts = Texts::new(cases.seed);
     for (index, mut rng) in cases.each() {
         let Text { family, text } = texts.draw(&mut rng);
@@ -49,20 +48,19 @@ fn by_library(text: &[u8], rooms: &Rooms) -> Outcome {
     Outcome { answer, memory }
 }
 
-/// Refusals 1 and 2 leave all unchanged, the others the ad's memory zero; what lies beyond
-/// the required sizes is kept.
 fn by_reference(text: &[u8], rooms: &Rooms) -> Outcome {
     let mut memory = rooms.noise();
-    let room = if rooms.suffice() {
-        AdRoom::REQUIRED
-    } else {
-        let nodes = 0;
-        AdRoom {
-            nodes,
-            ..AdRoom::REQUIRED
-        }
-    };
-    let (answer, left) = match read_into(room, text) {
+    let answer = expected(text, &mut memory.words, &mut memory.bytes);
+    Outcome { answer, memory }
+}
+
+/// The answer, and in the memory what it should hold: refusals 1 and 2 leave all unchanged,
+/// the others the ad's memory zero; what lies beyond the required sizes is kept.
+pub fn expected(text: &[u8], words: &mut [u64], bytes: &mut [u8]) -> [u64; 3] {
+    if !has_room(words, bytes) {
+        return [1, 0, 0];
+    }
+    let (answer, left) = match read(text) {
         Ok(ad) => {
             let counts = [0, ad.definitions.len() as u64, ad.node_count() as u64];
             (counts, Some(Stored::of(&ad)))
@@ -74,10 +72,10 @@ fn by_reference(text: &[u8], rooms: &Rooms) -> Outcome {
         }
     };
     if let Some(left) = left {
-        memory.words[..layout::WORDS].copy_from_slice(&left.words);
-        memory.bytes[..layout::BYTES].copy_from_slice(&left.bytes);
+        words[..layout::WORDS].copy_from_slice(&left.words);
+        bytes[..layout::BYTES].copy_from_slice(&left.bytes);
     }
-    Outcome { answer, memory }
+    answer
 }
 
 // What a difference looks like.

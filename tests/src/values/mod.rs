@@ -1,12 +1,12 @@
 //! The operators and real literals: each drawn pair of operands goes through every
 //! operator, in the library and in the reference.
 
-mod draw;
+pub mod draw;
 
-use crate::library;
+use crate::cases::Cases;
 use crate::report::{Report, Table};
 use crate::slot::{self, Words, KINDS};
-use crate::Cases;
+use classad::sys as library;
 use draw::Case;
 use reference::rng::Rng;
 use reference::tree::{BinaryOperator, UnaryOperator};
@@ -37,7 +37,7 @@ pub fn run(cases: &Cases) -> Report {
     let results = Table::new("compared, by answer", &rows(), &KINDS);
     let kinds = &KINDS[1..];
     let pairs = Table::new("pairs of operands", kinds, kinds);
-    let mut report = Report::new("values", cases.seed, vec![results, pairs]);
+    let mut report = Report::new(cases, vec![results, pairs]);
     for (index, mut rng) in cases.each() {
         let case = Case::draw(&mut rng);
         let mut comparison = Comparison {
