@@ -1,4 +1,4 @@
--- The rooms of any memory. Assumes nothing.
+-- The rooms of any memory: two ads', n numbers that a call writes, and a list's. Assumes nothing.
 use Prim.Native.Nat.{ℕ, zero, suc, _≤_, _<_}
 use native.Mathlib.Omega.{arith}
 use mathlib.Core.Path.{_≡_, refl, sym, ap, _∙_, subst}
@@ -7,7 +7,6 @@ use mathlib.Core.List.{List}
 use lib.ListN.{length}
 use lib.Dec.{ltb}
 use borrow.Author.Tests.{ltb-false}
-use Rattle.matching.specs.Matching.{small}
 
 -- ---- tests
 
@@ -29,19 +28,20 @@ or-second : (p q : Bool) → (p || q) ≡ false → q ≡ false
 or-second true q e = absurd (true≢false e)
 or-second false q e = e
 
-pub record Rooms (v b w c table list : List ℕ) : Type 0 where
+pub record Rooms (n : ℕ) (v b w c table list : List ℕ) : Type 0 where
   pub first-words : 4864 ≤ length v
   pub first-bytes : 16384 ≤ length b
   pub second-words : 4864 ≤ length w
   pub second-bytes : 16384 ≤ length c
-  pub values : 4096 ≤ length table
+  pub values : n ≤ length table
   pub entries : 2048 ≤ length list
 
-pub rooms : (v b w c table list : List ℕ) → small v b w c table list ≡ false → Rooms v b w c table list
-rooms v b w c table list e = go (ltb (length v) 4864) refl (ltb (length b) 16384) refl (ltb (length w) 4864) refl (ltb (length c) 16384) refl (ltb (length table) 4096) refl (ltb (length list) 2048) refl e
+pub rooms : (n : ℕ) (v b w c table list : List ℕ) →
+    (ltb (length v) 4864 || (ltb (length b) 16384 || (ltb (length w) 4864 || (ltb (length c) 16384 || (ltb (length table) n || ltb (length list) 2048))))) ≡ false → Rooms n v b w c table list
+rooms n v b w c table list e = go (ltb (length v) 4864) refl (ltb (length b) 16384) refl (ltb (length w) 4864) refl (ltb (length c) 16384) refl (ltb (length table) n) refl (ltb (length list) 2048) refl e
   where
     go : (p : Bool) → ltb (length v) 4864 ≡ p → (q : Bool) → ltb (length b) 16384 ≡ q → (r : Bool) → ltb (length w) 4864 ≡ r → (s : Bool) → ltb (length c) 16384 ≡ s →
-        (t : Bool) → ltb (length table) 4096 ≡ t → (u : Bool) → ltb (length list) 2048 ≡ u → (p || (q || (r || (s || (t || u))))) ≡ false → Rooms v b w c table list
+        (t : Bool) → ltb (length table) n ≡ t → (u : Bool) → ltb (length list) 2048 ≡ u → (p || (q || (r || (s || (t || u))))) ≡ false → Rooms n v b w c table list
     go p e₁ q e₂ r e₃ s e₄ t e₅ u e₆ h =
         let h₁ = or-second p (q || (r || (s || (t || u)))) h in
         let h₂ = or-second q (r || (s || (t || u))) h₁ in
@@ -52,6 +52,6 @@ rooms v b w c table list e = go (ltb (length v) 4864) refl (ltb (length b) 16384
           first-bytes = ltb-false (length b) 16384 (e₂ ∙ or-first q (r || (s || (t || u))) h₁);
           second-words = ltb-false (length w) 4864 (e₃ ∙ or-first r (s || (t || u)) h₂);
           second-bytes = ltb-false (length c) 16384 (e₄ ∙ or-first s (t || u) h₃);
-          values = ltb-false (length table) 4096 (e₅ ∙ or-first t u h₄);
+          values = ltb-false (length table) n (e₅ ∙ or-first t u h₄);
           entries = ltb-false (length list) 2048 (e₆ ∙ or-second t u h₄);
         }

@@ -3,3 +3,4 @@ pub mod Concluding
 pub mod Traversed
 pub mod Wells
 pub mod Exchange
+pub mod OneAnswer

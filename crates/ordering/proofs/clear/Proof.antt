@@ -5,7 +5,7 @@ use mathlib.Core.Path.{_≡_, refl, sym, _∙_, ap}
 use mathlib.Core.List.{_++_}
 use Prim.Native.Nat.{_+_, _-_, _≤_, _<_}
 use lib.ListN.{length, drop, replicate, length-set}
-use Rattle.ordering.proofs.Rooms.{cleared-all}
+use Rattle.ordering.proofs.Orders.{cleared-all}
 use Rattle.ordering.proofs.clear.Statement.{statement}
 use Rattle.ordering.proofs.clear.Tie as tie
 

@@ -3,7 +3,7 @@ use native.Mathlib.Omega.{arith}
 use Prim.Native.Nat.{ℕ}
 use mathlib.Core.Path.{_∙_, ap}
 use lib.ListN.{replicate}
-use Rattle.ordering.proofs.Rooms.{ready-marks, orders-of}
+use Rattle.ordering.proofs.Orders.{ready-marks, orders-of}
 use borrow.Author.Needs.{needs}
 use Rattle.ordering.proofs.order_formed.Statement.{statement}
 use Rattle.ordering.proofs.order_formed.Tie as tie
