@@ -18,7 +18,6 @@ ghost use Rattle.inspection.specs.Inspection.{nodeText, holder};
 ghost use Rattle.syntax.specs.Print.{printedAd};
 ghost use lib.Dec.{eqb};
 ghost use lib.ListN.{length};
-ghost use Prim.Native.Nat.{min};
 ghost use mathlib.Core.Bool.{cond, not};
 use inspection::Holder;
 pub use inspection::definition_name;
@@ -365,15 +364,6 @@ fn side_length(first: &[u8], second: &[u8], side: bool) -> usize
     first.len()
 }
 
-fn least(a: usize, b: usize) -> usize
-    ensures { λ r. ⌜ r ≡ min a b ⌝ }
-{
-    if a < b {
-        return a;
-    }
-    b
-}
-
 // Where the bytes of a String value begin in its ad's bytes, and how many there are.
 #[no_mangle]
 pub extern "C" fn classad_string<'a>(
@@ -387,7 +377,7 @@ pub extern "C" fn classad_string<'a>(
     ensures { λ _. ⌜ StringPlaced (now (first .entry)) (now (second .entry)) (not (eqb side 0)) offset length (now (answer .exit)) ⌝ }
 {
     let n = side_length(first, second, side != 0);
-    let start = least(offset as usize, n);
+    let start = positions::least(offset as usize, n);
     let part = matching::string_bytes(first, second, side != 0, offset, length);
     *answer = [start as u64, part.len() as u64];
 }

@@ -1,3 +1,4 @@
+pub mod Zeros
 pub mod Tests
 pub mod Ways
 pub mod Entries

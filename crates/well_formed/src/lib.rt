@@ -388,30 +388,47 @@ fn distinct(words: &[u64], bytes: &[u8], d: usize) -> bool
     true
 }
 
+// Whether all was zero, and x is. The loops below look at everything and stop nowhere, which a machine does many numbers at a time.
+fn still_zero(clear: bool, x: u64) -> bool
+    ensures { λ r. ⌜ r ≡ (clear && isZero x) ⌝ }
+{
+    if x != 0 {
+        return false;
+    }
+    clear
+}
+
 fn zero_words(words: &[u64]) -> bool
     ensures { λ r. ⌜ r ≡ every isZero (now (words .entry)) ⌝ }
 {
+    let mut clear = true;
     let mut i = 0;
     while i < words.len() {
-        if words[i] != 0 {
-            return false;
-        }
+        clear = still_zero(clear, words[i]);
         i += 1;
     }
-    true
+    clear
+}
+
+fn still_zero_byte(clear: bool, x: u8) -> bool
+    ensures { λ r. ⌜ r ≡ (clear && isZero x) ⌝ }
+{
+    if x != 0 {
+        return false;
+    }
+    clear
 }
 
 fn zero_bytes(bytes: &[u8]) -> bool
     ensures { λ r. ⌜ r ≡ every isZero (now (bytes .entry)) ⌝ }
 {
+    let mut clear = true;
     let mut i = 0;
     while i < bytes.len() {
-        if bytes[i] != 0 {
-            return false;
-        }
+        clear = still_zero_byte(clear, bytes[i]);
         i += 1;
     }
-    true
+    clear
 }
 
 // Whether all is zero behind d definitions, n nodes and k bytes.
