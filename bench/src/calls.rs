@@ -1,6 +1,7 @@
 //! The calls that are timed: the library's on stored numbers, the reference's on trees.
 
 use crate::clock::Timed;
+use classad::bounds::{BYTES, WORDS};
 use classad::sys as library;
 use reference::bounds;
 use reference::check::check;
@@ -19,8 +20,8 @@ pub struct Memory {
 impl Memory {
     pub fn zero() -> Memory {
         Memory {
-            words: vec![0; 4_864],
-            bytes: vec![0; 16_384],
+            words: vec![0; WORDS],
+            bytes: vec![0; BYTES],
         }
     }
 

@@ -179,7 +179,8 @@ void classad_print(const uint64_t *words, size_t words_length,
  * 1,024 * side + node, two words each, the values of the first entries, one for each step
  * made; every other slot is blank. What table and list held before does not matter.
  * Refused 1 (words, bytes, table or list too small) or 10 (the first ad or the second is not
- * well formed): the number and six zeros. Table and list stay as they were.
+ * well formed), checked in that order: the number and six zeros. Table and list stay as they
+ * were.
  */
 void classad_match(const uint64_t *first_words, size_t first_words_length,
                    const uint8_t *first_bytes, size_t first_bytes_length,
@@ -196,8 +197,8 @@ void classad_match(const uint64_t *first_words, size_t first_words_length,
  * Found: 0, transitions, length of the list. The first 2,048 flags are 1 at
  * 1,024 * side + node for each circular reference of both ads, reached by the list or not,
  * and 0 elsewhere; the list is written as classad_match does.
- * Refused 1 (words, bytes, flags or list too small) or 10: the number, 0, 0. Flags and list
- * stay as they were.
+ * Refused 1 (words, bytes, flags or list too small) or 10, checked in that order: the number,
+ * 0, 0. Flags and list stay as they were.
  */
 void classad_dependencies(const uint64_t *first_words, size_t first_words_length,
                           const uint8_t *first_bytes, size_t first_bytes_length,
@@ -214,8 +215,8 @@ void classad_dependencies(const uint64_t *first_words, size_t first_words_length
  * Blank 0, 0, 0, 0; Undefined 1, 0, 0, 0; Error 2, 0, 0, 0; Boolean 3, then 1 for true and 0
  * for false, 0, 0; Integer 4, its 32 bits in two's complement, 0, 0; Real 5, its 64 bits, 0,
  * 0; String 6, side, offset, length, of which classad_string tells where its bytes are.
- * A node over 1,023 is blank, and words beyond the table read as 0. Nothing is refused;
- * writes the answer alone.
+ * A node over 1,023 is blank, and words beyond the table read as 0; any two words are some
+ * slot (docs/LAYOUT.md). Nothing is refused; writes the answer alone.
  */
 void classad_value(const uint64_t *table, size_t table_length,
                    uint64_t second, size_t node,
@@ -265,10 +266,11 @@ void classad_position(const uint8_t *text, size_t text_length, size_t place,
 
 /*
  * The operators by themselves, over slots as in a table: two words each, a kind and what it
- * carries. An operator is named by the kind of its node. Operands stand one after the other
- * in `operands`, whose missing words read as 0; the result goes into the first two words of
- * `result`, as far as they are there, and no other word is written. The result is blank
- * where the number is no such operator's or an operand is blank. Nothing is refused.
+ * carries; any two words are some slot (docs/LAYOUT.md). An operator is named by the kind of
+ * its node. Operands stand one after the other in `operands`, whose missing words read as 0;
+ * the result goes into the first two words of `result`, as far as they are there, and no
+ * other word is written. The result is blank where the number is no such operator's or an
+ * operand is blank. Nothing is refused.
  */
 
 /* Kinds 13 to 27, two operands. `first` and `second` are the bytes of both ads, which

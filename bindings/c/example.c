@@ -25,7 +25,7 @@ static struct ad ads[2];
 static uint64_t table[CLASSAD_TABLE_WORDS];
 static uint64_t list[CLASSAD_LIST_ENTRIES];
 
-/* A file's bytes, one more than an ad's text may have at most. Answers 0, or FAULT. */
+/* The bytes of a file, as many as there is room for. Answers 0, or FAULT after a message. */
 static int text_of(const char *name, uint8_t *text, size_t room, size_t *length)
 {
     FILE *file = fopen(name, "rb");
@@ -46,7 +46,7 @@ static int text_of(const char *name, uint8_t *text, size_t room, size_t *length)
 /* Reads one ad. Answers 0, or the exit status after a message. */
 static int read_ad(const char *name, struct ad *ad)
 {
-    static uint8_t text[CLASSAD_TEXT_BYTES + 1];
+    static uint8_t text[CLASSAD_TEXT_BYTES + 1]; /* one more tells that a text is too long */
     size_t length = 0;
     uint64_t answer[CLASSAD_READ_NUMBERS];
     uint64_t position[CLASSAD_POSITION_NUMBERS];

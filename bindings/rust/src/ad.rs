@@ -37,7 +37,7 @@ pub struct Ad {
 pub struct Definition<'a> {
     /// The name as written.
     pub name: &'a [u8],
-    /// The number of the expression's last node, its outermost operator.
+    /// The number of the expression's last node, whose value is that of the whole.
     pub root: usize,
 }
 

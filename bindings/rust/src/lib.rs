@@ -4,8 +4,8 @@
 //! use classad::{Ad, Match};
 //!
 //! let job: Ad = "[PulseWidth = 25; Requirements = true; Rank = other.Free]".parse()?;
-//! let bench: Ad = "[Free = 3; Requirements = !(other.PulseWidth > 50)]".parse()?;
-//! let matching = Match::new(&job, &bench);
+//! let machine: Ad = "[Free = 3; Requirements = !(other.PulseWidth > 50)]".parse()?;
+//! let matching = Match::new(&job, &machine);
 //! assert!(matching.is_matched());
 //! assert_eq!(matching.ranks(), Some((3, 0)));
 //! # Ok::<(), classad::Refusal>(())
@@ -15,6 +15,9 @@
 //! refused; whether it is finished depends on its budget, and only a finished [`Match`] has a
 //! verdict. The types own their memory and call the functions of [`sys`], which are proved as
 //! source in `crates/`; the types themselves are not proved but run.
+//!
+//! A call needs stack: the deepest ads tried took less than 512 KB. No bound is proved, and a
+//! thread with too little ends the program by a stack overflow.
 
 #![deny(missing_docs)]
 #![deny(unsafe_code)]

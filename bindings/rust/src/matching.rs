@@ -57,14 +57,14 @@ pub(crate) fn entries(room: &[u64]) -> Vec<Entry> {
 /// use classad::{Ad, Match, Side, Value};
 ///
 /// let job: Ad = "[Requirements = other.w > 50]".parse()?;
-/// let bench: Ad = "[w = 60; Requirements = true]".parse()?;
-/// let finished = Match::new(&job, &bench);
+/// let machine: Ad = "[w = 60; Requirements = true]".parse()?;
+/// let finished = Match::new(&job, &machine);
 /// assert!(finished.is_matched());
 /// assert_eq!(finished.ranks(), Some((0, 0)));
 /// assert_eq!(finished.steps(), 5);
 /// assert_eq!(finished.value(Side::Second, 0), Some(Value::Integer(60)));
 ///
-/// let short = Match::with_budget(&job, &bench, 4);
+/// let short = Match::with_budget(&job, &machine, 4);
 /// assert!(!short.is_matched());
 /// assert_eq!((short.verdict(), short.ranks()), (None, None));
 /// # Ok::<(), classad::Refusal>(())
@@ -76,10 +76,10 @@ pub(crate) fn entries(room: &[u64]) -> Vec<Entry> {
 /// use classad::{Ad, Match, Side, Value};
 ///
 /// let job: Ad = "[Requirements = true]".parse()?;
-/// let bench: Ad = "[Requirements = !(other.PulseWidth > 50)]".parse()?;
-/// let unmatched = Match::new(&job, &bench);
+/// let machine: Ad = "[Requirements = !(other.PulseWidth > 50)]".parse()?;
+/// let unmatched = Match::new(&job, &machine);
 /// assert_eq!(unmatched.verdict(), Some(false));
-/// let requirements = bench.definitions().next().unwrap().root;
+/// let requirements = machine.definitions().next().unwrap().root;
 /// assert_eq!(unmatched.value(Side::Second, requirements), Some(Value::Undefined));
 /// # Ok::<(), classad::Refusal>(())
 /// ```
