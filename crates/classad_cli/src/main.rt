@@ -5,7 +5,6 @@ mod shown;
 
 use input::Budget;
 use input::Input;
-use matching::Outcome;
 use printer::Printed;
 use reader::Answer;
 

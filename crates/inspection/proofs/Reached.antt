@@ -1,5 +1,5 @@
 -- The tree that ends at a node of a stored ad is the node's expression. Assumes nothing.
-use Prim.Native.Nat.{ℕ, zero, suc, _+_, _-_, _*_, _≤_, _<_}
+use Prim.Native.Nat.{ℕ, zero, suc, _+_, _-_, _≤_, _<_}
 use native.Mathlib.Omega.{arith}
 use mathlib.Core.Path.{_≡_, refl, sym, _∙_, ap, subst}
 use mathlib.Core.List.{List, [], _∷_, _++_}
@@ -9,7 +9,6 @@ use lib.Dec.{ltb}
 use borrow.Author.Tests.{ltb-true, ltb-false}
 use Rattle.syntax.specs.Tree.{Expr, literal, reference, unary, binary, conditional, Ad, size, nodes}
 use Rattle.syntax.specs.Print.{printed}
-use Rattle.ad.specs.Laws.Content.{size-some}
 use Rattle.well_formed.specs.Laws.Leaves.{Run}
 use Rattle.well_formed.specs.Laws.Trees.{unary-parts, binary-parts, conditional-parts}
 use Rattle.well_formed.specs.Laws.Definitions.{Table, table-row}

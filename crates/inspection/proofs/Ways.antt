@@ -1,7 +1,7 @@
 -- What each way through the printer of a node's expression gives. Assumes nothing.
-use Prim.Native.Nat.{ℕ, zero, _+_, _*_, _≤_, _<_}
+use Prim.Native.Nat.{ℕ, _≤_, _<_}
 use native.Mathlib.Omega.{arith}
-use mathlib.Core.Path.{_≡_, refl, sym, _∙_, ap}
+use mathlib.Core.Path.{_≡_, sym, _∙_, ap}
 use mathlib.Core.List.{List, [], _∷_}
 use lib.ListN.{length}
 use lib.Seq.{sets}
@@ -9,7 +9,6 @@ use Rattle.syntax.specs.Tree.{Ad, nodes, size}
 use Rattle.syntax.specs.Print.{printed}
 use Rattle.ad.specs.Layout.{exprBytes}
 use Rattle.well_formed.specs.WellFormed.{Answers}
-use Rattle.well_formed.specs.Laws.Leaves.{Run}
 use Rattle.well_formed.specs.Laws.Runs.{Stands, stands-inside}
 use Rattle.well_formed.specs.Laws.Prints.{print-short}
 use Rattle.well_formed.specs.declared.Checked.the-variants.{WellFormed}

@@ -1,11 +1,11 @@
 -- One more byte, and bounds. Assumes nothing.
-use Prim.Native.Nat.{ℕ, suc, _+_, _≤_, _<_, min}
+use Prim.Native.Nat.{ℕ, _+_, _≤_, _<_, min}
 use native.Mathlib.Omega.{arith}
 use native.Mathlib.Numerals.{add-one}
 use mathlib.Core.Path.{_≡_, refl, sym, _∙_, ap}
 use mathlib.Core.Bool.{Bool, true, false, cond}
 use mathlib.Core.List.{List, [], _∷_, _++_}
-use lib.ListN.{length, take, getD, length-take}
+use lib.ListN.{length, take, getD}
 use native.Mathlib.Nat.{min-eq-left, min-eq-right, min-le-right}
 use lib.Seq.{take-suc, take-all}
 use lib.Dec.{eqb, leb}

@@ -1,6 +1,6 @@
 -- The line and the column of a place in a text, both from 1: for a person, the place of 'A refusal carries its number and a place'.
 -- Assumes nothing.
-use Prim.Native.Nat.{ℕ, suc, _+_}
+use Prim.Native.Nat.{ℕ, _+_}
 use mathlib.Core.Path.{_≡_}
 use mathlib.Core.Bool.{cond}
 use mathlib.Core.List.{List, [], _∷_}

@@ -1,11 +1,10 @@
 -- Whether all numbers are zero, one after the other and with no stop. Assumes nothing.
 use Prim.Native.Nat.{ℕ, _+_, _≤_, _<_}
 use native.Mathlib.Omega.{arith}
-use mathlib.Core.Path.{_≡_, refl, sym, ap, _∙_}
+use mathlib.Core.Path.{_≡_, refl, sym, _∙_}
 use mathlib.Core.Bool.{Bool, true, false, _&&_}
 use mathlib.Core.List.{List}
 use lib.ListN.{length, drop, getD}
-use lib.Dec.{eqb}
 use Rattle.lexemes.specs.Lexeme.{every}
 use Rattle.lexemes.proofs.Laws.{every-more, every-stop, every-end}
 use Rattle.well_formed.specs.Decode.{isZero}

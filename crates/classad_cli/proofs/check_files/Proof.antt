@@ -1,8 +1,5 @@
 -- `classad_cli::check_files` is safe and ends. Assumes nothing.
-use native.Mathlib.Omega.{arith}
-use mathlib.Core.Path.{_≡_, refl}
-use Prim.Native.Nat.{_-_, _+_, _*_, _≤_, _<_}
-use lib.ListN.{length}
+use Prim.Native.Nat.{_-_}
 use borrow.Author.Needs.{needs}
 use Rattle.classad_cli.proofs.check_files.Statement.{statement}
 use Rattle.classad_cli.proofs.check_files.Tie as tie

@@ -1,8 +1,7 @@
 -- `inspection::definition_of` meets its contract. Assumes nothing.
 use native.Mathlib.Omega.{arith}
-use mathlib.Core.Path.{_≡_, sym, _∙_, ap, subst}
+use mathlib.Core.Path.{sym, _∙_, subst}
 use Prim.Native.Nat.{ℕ, _-_, _≤_, _<_}
-use borrow.Author.Needs.{needs}
 use Rattle.inspection.proofs.Holders.{too-short, Searched, start, no-name, found, next, all-passed, long-enough}
 use Rattle.inspection.proofs.definition_of.Statement.{statement}
 use Rattle.inspection.proofs.definition_of.Tie as tie

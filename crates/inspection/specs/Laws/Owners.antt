@@ -2,12 +2,12 @@
 use Prim.Native.Nat.{ℕ, zero, suc, _+_, _-_, _≤_, _<_}
 use native.Mathlib.Omega.{arith}
 use native.Mathlib.Numerals.{add-one}
-use mathlib.Core.Path.{_≡_, refl, sym, _∙_, ap, subst}
+use mathlib.Core.Path.{_≡_, refl, sym, _∙_, ap}
 use mathlib.Core.Bool.{Bool, true, false, cond}
 use mathlib.Core.List.{List, [], _∷_}
 use lib.ListN.{length}
 use lib.Dec.{eqb, ltb, leb}
-use borrow.Author.Tests.{ltb-true, ltb-false, lt-ltb, le-ltb, le-leb, lt-leb, ne-eqb}
+use borrow.Author.Tests.{ltb-true, ltb-false, le-ltb, le-leb, lt-leb, ne-eqb}
 use Rattle.syntax.specs.Tree.{Definition, Ad, size, nodes}
 use Rattle.ad.specs.Layout.{adBytes}
 use Rattle.ad.specs.Stored.{lengthAt, rootAt}
@@ -16,7 +16,6 @@ use Rattle.well_formed.specs.WellFormed.{Holds}
 use Rattle.well_formed.specs.Laws.Definitions.{name-some, Table, table-row}
 use Rattle.well_formed.specs.Laws.Whole.{holds-table, stop-zero, holds-long}
 use Rattle.inspection.specs.Inspection.{ownerFrom, owner, holderFrom, holder}
-use Rattle.inspection.specs.declared.Holder.{Holder}
 use Rattle.inspection.specs.declared.Holder.the-variants as found
 
 -- definitions whose nodes begin at n, among k that may be there, behind which none is named

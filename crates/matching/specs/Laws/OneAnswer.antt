@@ -3,18 +3,18 @@
 use Prim.Native.Nat.{ℕ, suc, _-_, _≤_, _<_}
 use native.Mathlib.Decide.{decLt}
 use native.Mathlib.Omega.{arith}
-use mathlib.Core.Path.{_≡_, refl, sym, ap, ap₂, _∙_, subst}
-use mathlib.Core.Bool.{Bool, _&&_}
+use mathlib.Core.Path.{_≡_, sym, ap, _∙_, subst}
+use mathlib.Core.Bool.{Bool}
 use mathlib.Core.List.{List, [], _++_, map}
 use lib.ListN.{length, take, drop, replicate}
 use Rattle.graph.specs.Graph.{Graph, needs, Entered}
 use Rattle.graph.specs.Laws.Order.{entered-unique}
 use Rattle.links.specs.Pair.{pairGraph}
 use Rattle.evaluation.specs.Evaluation.{ruleAt, stepsWords}
-use Rattle.matching.specs.Matching.{isTrue, rankOf, Concluded, Counted, Match, tableWords, listWords, Matched, no-room, first-malformed, second-malformed, matches}
+use Rattle.matching.specs.Matching.{Concluded, Counted, Match, tableWords, listWords, Matched, no-room, first-malformed, second-malformed, matches}
 use Rattle.matching.specs.Laws.Concluding.{flags-same, worth-unique}
 use Rattle.matching.specs.declared.Outcome.{Outcome}
-use Rattle.matching.specs.declared.Outcome.the-variants.{Finished, Unfinished}
+use Rattle.matching.specs.declared.Outcome.the-variants.{Unfinished}
 
 -- the same answer and the same memory after it
 pub record Same (table list : List ℕ) (r : Outcome) (table′ list′ : List ℕ) (r′ : Outcome) : Type 0 where

@@ -1,8 +1,5 @@
 -- `classad_cli::input::inputs` is safe and ends. Assumes nothing.
-use native.Mathlib.Omega.{arith}
-use mathlib.Core.Path.{_≡_, refl}
-use Prim.Native.Nat.{_-_, _+_, _*_, _≤_, _<_}
-use lib.ListN.{length}
+use Prim.Native.Nat.{_-_, _≤_}
 use borrow.Author.Needs.{needs}
 use Rattle.classad_cli.proofs.input.inputs.Statement.{statement}
 use Rattle.classad_cli.proofs.input.inputs.Tie as tie
