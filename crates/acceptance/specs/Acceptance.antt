@@ -69,10 +69,10 @@ accepted-ready s w b w′ b′ d n x = go (small w b) (R.read s) refl (x .answer
         short true h p q = let k = long s h in let z : _≡_ {A = ℕ} 0 1 = cc in absurd (omega arith)
         short false h p q = stored s w b w′ b′ tree e p q
 
--- TWO TEXTS THAT ARE READ ARE NEVER REFUSED BY A MATCH that has room for its table and list, whatever the budget
-pub read-matches : {v b w c : List ℕ} {budget : ℕ} {table list table′ list′ : List ℕ} {r : Outcome} → Ready v b → Ready w c → tableWords ≤ length table → listWords ≤ length list →
+-- such memory is never refused by a match that has room for its table and list
+pub ready-matches : {v b w c : List ℕ} {budget : ℕ} {table list table′ list′ : List ℕ} {r : Outcome} → Ready v b → Ready w c → tableWords ≤ length table → listWords ≤ length list →
     Matched v b w c budget table list table′ list′ r → (k p : ℕ) → r ≡ Refused k p → ⊥
-read-matches {v} {b} {w} {c} {budget} {table} {list} {r = r} p q h l m k p′ e = go m
+ready-matches {v} {b} {w} {c} {budget} {table} {list} {r = r} p q h l m k p′ e = go m
   where
     room : M.small v b w c table list ≡ false
     room = rw (le-ltb (length v) adWords (p .words), le-ltb (length b) adBytesRoom (p .bytes), le-ltb (length w) adWords (q .words), le-ltb (length c) adBytesRoom (q .bytes), le-ltb (length table) tableWords h) (le-ltb (length list) listWords l)
@@ -96,3 +96,10 @@ read-matches {v} {b} {w} {c} {budget} {table} {list} {r = r} p q h l m k p′ e 
     go (first-malformed x n r t u) = n (p .well)
     go (second-malformed x y n r t u) = n (q .well)
     go (matches x y n values entries m t u) = answered m
+
+-- TWO TEXTS s AND t THAT ARE READ ARE NEVER REFUSED BY A MATCH of what reading left, whatever memory they were read into and whatever the
+-- budget, where it has room for its table and list
+pub read-matches : {s t v₀ b₀ w₀ c₀ v b w c : List ℕ} {d n d′ n′ budget : ℕ} {table list table′ list′ : List ℕ} {r : Outcome} →
+    Answered s v₀ b₀ v b (reading.Accepted d n) → Answered t w₀ c₀ w c (reading.Accepted d′ n′) → tableWords ≤ length table → listWords ≤ length list →
+    Matched v b w c budget table list table′ list′ r → (k p : ℕ) → r ≡ Refused k p → ⊥
+read-matches x y h l m k p e = ready-matches (accepted-ready _ _ _ _ _ _ _ x) (accepted-ready _ _ _ _ _ _ _ y) h l m k p e

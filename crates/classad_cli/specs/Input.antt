@@ -5,7 +5,7 @@ use lib.ListN.{length}
 use Rattle.classad_cli.specs.declared.input.Got.{Got}
 use Rattle.classad_cli.specs.declared.input.Got.the-variants.{Bytes, End, Failed}
 
--- some bytes, no more than there is room for: so that a file is read to its end
+-- some bytes, no more than there is room for, so that a file is read to its end. Document 01 says nothing of files
 abbrev pub GotFits : List ℕ → Got → Type 0
 GotFits rest (Bytes n) = (0 < n) × (n ≤ length rest)
 GotFits rest End = Unit {0}

@@ -1,11 +1,10 @@
 // The shortest decimal of a Real, for a person to read: the fewest digits that read back as the same 64-bit float, and of these the
 // closest to it. Each number here is digits from the left, POINT of them before the point, so that every float is exact.
 // What is written is compared with another program's, and not proved; that no call goes wrong is.
-ghost use mathlib.Core.Path.{_≡_};
 ghost use Prim.Native.Nat.{_≤_, _<_};
 ghost use lib.ListN.{length};
 
-// A float has at most 309 digits before the point and 1,074 behind it; four times a float's neighbours have two more.
+// A float has at most 309 digits before the point and 1,074 behind it; the ends of what reads as it have up to two more behind it.
 pub const POINT: usize = 328;
 
 // A float, `whole` · 2^(exponent - 1077), and in the same way the ends of what reads as it; whether the ends do so too.

@@ -101,13 +101,12 @@ sum-read-back n h = read-back (only (sum n)) (only-bounded (sum n) (omega (arith
     fits : length (printedAd (only (sum n))) ≤ 16384
     fits = unfold printedAd definitionsText bytes in omega (arith, length-append (printed (sum n)) (93 ∷ []), sum-length n)
 
--- document 01's limits, but for how many nodes there may be: for 'Two trees are equal when definitions, order, names as written, kinds
--- and literals are equal', of trees beyond '1,024 nodes'
+-- document 01's limits, but for '1,024 nodes', in whose place there may be n
 abbrev pub withNodes : ℕ → Limits
 withNodes n = record { most-nodes = n; most-definitions = limits .most-definitions; taken = limits .taken }
 
--- A SUM OF ANY LENGTH READS BACK under the reader that allows its nodes, by whatever else document 01 says: what its print comes to
--- is no matter of parentheses or levels. Against the slip 'a sum of 100 terms reads back as refusal 6'
+-- A SUM OF ANY LENGTH READS BACK where the bound on nodes is lifted for it: neither levels nor parentheses keep it from that. Against
+-- the slip 'a sum of 100 terms reads back as refusal 6'
 pub sum-reads-back : (n : ℕ) → adAt (withNodes (n + n + 1)) (tokens (printedAd (only (sum n)))) ≡ accepted (only (sum n))
 unfolding nodes NewAfter defined
 sum-reads-back n =
