@@ -6,6 +6,7 @@ A case is a folder:
     output      the expected standard output
     errors      the expected standard error, empty where this file is not there
     status      the expected exit status
+    bound       there where permissions must bind the command, even if root runs it
 and the files that the command reads. The command runs in a copy of that folder, in which
 `examples` is the repository's folder of that name.
 """
@@ -17,6 +18,19 @@ import subprocess
 
 REPOSITORY = pathlib.Path(__file__).resolve().parents[2]
 SECONDS = 60
+
+# Starts a command of root's without what lets root read any file.
+BOUND = ["setpriv", "--bounding-set=-dac_override,-dac_read_search"]
+
+
+def can_be_bound():
+    """Whether permissions bind a command that is run here, or can be made to."""
+    if os.geteuid() != 0:
+        return True
+    try:
+        return subprocess.run([*BOUND, "true"], capture_output=True).returncode == 0
+    except FileNotFoundError:
+        return False
 
 
 def run_all(label, program, copies, with_status):
@@ -37,9 +51,10 @@ def run_all(label, program, copies, with_status):
 def run_case(program, folder, with_status):
     """Unified diffs of what was expected and what came; none where all is the same."""
     (folder / "examples").symlink_to(REPOSITORY / "examples")
+    start = BOUND if os.geteuid() == 0 and (folder / "bound").exists() else []
     try:
         done = subprocess.run(
-            [os.fsencode(program), *arguments(folder)],
+            [*start, os.fsencode(program), *arguments(folder)],
             input=content(folder / "input"),
             capture_output=True,
             cwd=folder,

@@ -3,6 +3,8 @@
 import os
 import pathlib
 
+import cases
+
 USAGE = (pathlib.Path(__file__).parent / "cases/help/output").read_bytes()
 TEXT_BYTES = 16384
 MATCH = ["match", "examples/job.ad", "examples/bench.ad"]
@@ -152,10 +154,10 @@ def write_names(folder):
 
 
 def write_unreadable(folder):
-    if os.geteuid() == 0:
-        print("unreadable-file: skipped, since permissions do not bind root")
+    if not cases.can_be_bound():
+        print("unreadable-file: skipped, since permissions do not bind root here")
         return
     errors = b"classad: secret.ad: Permission denied\n"
     case = folder / "unreadable-file"
-    write(case, ["check", "secret.ad"], errors=errors, status=2, files={"secret.ad": b"[]"})
+    write(case, ["check", "secret.ad"], errors=errors, status=2, files={"secret.ad": b"[]", "bound": b""})
     (case / "secret.ad").chmod(0)
