@@ -1,15 +1,12 @@
 -- Each way through the functions that read a stored ad. Assumes nothing.
-use mathlib.Core.Path.{_≡_, refl, sym, ap, _∙_, subst}
+use mathlib.Core.Path.{_≡_, refl, sym, ap, _∙_}
 use mathlib.Core.Logic.{_≢_}
 use mathlib.Core.Bool.{Bool, true, false, cond}
 use mathlib.Core.List.{List, [], _∷_, map}
-use Prim.Native.Nat.{ℕ, zero, suc, _+_, _-_, _*_, _≤_, _<_}
-use native.Mathlib.Nat.{le-of-eq}
+use Prim.Native.Nat.{ℕ, suc, _+_, _-_, _≤_, _<_}
 use native.Mathlib.Numerals.{add-one}
 use native.Mathlib.Omega.{arith}
-use lib.ListN.{length, getD, take}
-use lib.Seq.{take-all, take-nil}
-use lib.Dec.{eqb, ltb}
+use lib.Dec.{eqb}
 use Rattle.text.specs.Strings.{sameName}
 use Rattle.syntax.specs.Bounds.{maxNodes, maxDefinitions}
 use Rattle.graph.specs.Laws.Members.{eqb-yes, eqb-no, ltb-yes, ltb-no}
@@ -94,15 +91,6 @@ module _ (w : List ℕ) where
   pub definitions-are : {i : ℕ} → i ≡ leading (lengthAt w) 0 maxDefinitions → i ≡ definitionCount w
   unfolding definitionCount
   definitions-are e = e
-
--- ---- a part of the bytes
-
-pub cut-none : (n m : ℕ) → _≡_ {A = List ℕ} (take n []) (take m [])
-cut-none n m = take-nil n ∙ sym (take-nil m)
-
--- as many as there are, or more
-pub cut-all : (l : List ℕ) (n m : ℕ) → length l ≡ n → n ≤ m → take n l ≡ take m l
-cut-all l n m e h = take-all n l (le-of-eq e) ∙ sym (take-all m l (rw e h))
 
 -- ---- a name is looked up
 

@@ -10,11 +10,11 @@ use lib.Dec.{ltb}
 use Rattle.text.specs.Bytes.{bytes}
 use Rattle.syntax.specs.Bounds.{maxNodes, maxDefinitions}
 use Rattle.text.specs.Strings.{sameName}
-use Rattle.syntax.specs.Tree.{Definition, Ad, size, nodes}
+use Rattle.syntax.specs.Tree.{Ad, size, nodes}
 use Rattle.ad.specs.Layout.{Named, adWords, storedWords, storedBytes}
-use Rattle.graph.specs.Members.{_∈_, Each}
+use Rattle.graph.specs.Members.{Each}
 use Rattle.graph.specs.Graph.{Graph}
-use Rattle.ad.specs.Stored.{kindAt, nodeCount, definitionCount, isOwn, isOther, isReference, operands, nameAt, rootAt, find, rootsFrom}
+use Rattle.ad.specs.Stored.{kindAt, nodeCount, definitionCount, isOwn, isOther, isReference, operands, nameAt, rootAt, find}
 
 -- A link as it is said from its own side: whether it goes to the other ad, and to which node there: for '`name` finds its
 -- definition in its own ad, `other.name` in the other'.
@@ -78,7 +78,6 @@ pairGraph v b w c = record {
   nth = λ i. cond (ltb i (nodeCount v)) i (maxNodes + (i - nodeCount v));
   links = both (λ i. map (linked false) (linksFrom v b w c i)) (λ i. map (linked true) (linksFrom w c v b i));
   ref = both (refersAt v) (refersAt w);
-  sources = rootsFrom v 0 (definitionCount v) ++ map (numbered true) (rootsFrom w 0 (definitionCount w));
   roots = rootsOf false v b requirements ++ (rootsOf true w c requirements ++ (rootsOf false v b rank ++ rootsOf true w c rank));
 }
 
@@ -89,7 +88,7 @@ definitionAt n name [] = []
 definitionAt n name (d ∷ ds) =
     cond (sameName (d .name) name) ((n + size (d .expression) - 1) ∷ []) (definitionAt (n + size (d .expression)) name ds)
 
--- What a well-formed stored ad keeps to, of the facts that the traversal goes by: for 'a stored ad is well formed exactly if ..'.
+-- What a well-formed stored ad keeps to, of its room, operands and definitions: for 'a stored ad is well formed exactly if ..'.
 pub record Formed (w : List ℕ) : Type 0 where
   pub words-room : adWords ≤ length w
   pub operands-below : (i : ℕ) → i < nodeCount w → Each (λ y. y < i) (operands w i)

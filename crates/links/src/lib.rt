@@ -1,14 +1,14 @@
-// The graph of two stored ads: its nodes, links and searches by their numbers. v and b are the words and bytes of the first ad, w and
+// The graph of two stored ads: its nodes, links and roots by their numbers. v and b are the words and bytes of the first ad, w and
 // c those of the second.
 mod stored;
 
 ghost use mathlib.Core.Path.{_≡_};
-ghost use mathlib.Core.Bool.{Bool, false, true, not, cond, _&&_};
+ghost use mathlib.Core.Bool.{false, true, not, cond};
 ghost use mathlib.Core.List.{List, map, _++_};
 ghost use Prim.Native.Nat.{ℕ, _+_, _-_, _≤_, _<_};
 ghost use lib.ListN.{length, getD, take};
-ghost use lib.Dec.{eqb, ltb};
-ghost use Rattle.graph.specs.Transition.{flags, start, led, goes, marked};
+ghost use lib.Dec.{ltb};
+ghost use Rattle.graph.specs.Transition.{led, needed, marked};
 ghost use Rattle.ad.specs.Stored.{kindAt, operandAt, nodeCount, isReference, find};
 ghost use Rattle.links.specs.Pair.{numbered, linked, linksFrom, both, rootsOf, pairGraph, Formed, Measured, Stands};
 ghost use Rattle.graph.specs.Members.{numbers, raised};
@@ -89,80 +89,25 @@ pub fn led_to(v: &[u64], w: &[u64], target: &[usize], x: usize, i: usize) -> usi
     operand_of(v, w, x, i)
 }
 
-// How many links search k follows from x; m searches are the definitions'.
-pub fn degree(
-    v: &[u64],
-    w: &[u64],
-    target: &[usize],
-    flag: &[usize],
-    m: usize,
-    k: usize,
-    x: usize,
-) -> usize
+// How many nodes x needs, by its marks: a circular reference needs none.
+pub fn need_count(v: &[u64], w: &[u64], target: &[usize], flag: &[usize], x: usize) -> usize
     requires { ⌜ Formed (now v) × Formed (now w) × Stands (now v) (now w) x × (x < length (now target)) × (x < length (now flag)) ⌝ }
-    ensures { λ r. ⌜ ((b c : List ℕ) → length (pairGraph (now (v .entry)) b (now (w .entry)) c .sources) ≡ m → r ≡ length (goes (pairGraph (now (v .entry)) b (now (w .entry)) c) k (numbers (now (target .entry))) (raised (now (flag .entry))) x)) ⌝ }
+    ensures { λ r. ⌜ ((b c : List ℕ) → r ≡ length (needed (pairGraph (now (v .entry)) b (now (w .entry)) c) (numbers (now (target .entry))) (raised (now (flag .entry))) x)) ⌝ }
     ensures few { λ r. ⌜ r ≤ 3 ⌝ }
 {
-    if k < m {
-        return led_count(v, w, target, x);
-    }
     if flag[x] == 1 {
         return 0;
     }
     led_count(v, w, target, x)
 }
 
-// The node at which search k begins.
-pub fn start_of(v: &[u64], w: &[u64], p: Counts, q: Counts, roots: &[usize], k: usize) -> usize
-    requires { ⌜ Measured (now v) (p .nodes) (p .definitions) × Measured (now w) (q .nodes) (q .definitions) × (k < p .definitions + q .definitions + length (now roots)) ⌝ }
-    ensures { λ r. ⌜ ((b c : List ℕ) → now (roots .entry) ≡ pairGraph (now (v .entry)) b (now (w .entry)) c .roots → r ≡ start (pairGraph (now (v .entry)) b (now (w .entry)) c) k) ⌝ }
-    ensures small { λ r. ⌜ (((i : ℕ) → i < length (now (roots .entry)) → getD (now (roots .entry)) i 0 < 2048) → r < 2048) ⌝ }
+// Whether the node x is a reference.
+pub fn refers(v: &[u64], w: &[u64], x: usize) -> bool
+    requires { ⌜ Formed (now v) × Formed (now w) × Stands (now v) (now w) x ⌝ }
+    ensures { λ r. ⌜ ((b c : List ℕ) → r ≡ pairGraph (now (v .entry)) b (now (w .entry)) c .ref x) ⌝ }
 {
-    let d = p.definitions;
-    if k < d {
-        return ad::root(v, k);
-    }
-    let j = k - d;
-    if j < q.definitions {
-        return NODES + ad::root(w, j);
-    }
-    let i = j - q.definitions;
-    roots[i]
-}
-
-// Whether the link from x to y closes a cycle in search k.
-pub fn closes(
-    v: &[u64],
-    w: &[u64],
-    p: Counts,
-    q: Counts,
-    roots: &[usize],
-    k: usize,
-    x: usize,
-    y: usize,
-) -> bool
-    requires { ⌜ Measured (now v) (p .nodes) (p .definitions) × Measured (now w) (q .nodes) (q .definitions) × Stands (now v) (now w) x × (k < p .definitions + q .definitions + length (now roots)) ⌝ }
-    ensures { λ r. ⌜ ((b c : List ℕ) → now (roots .entry) ≡ pairGraph (now (v .entry)) b (now (w .entry)) c .roots → r ≡ (flags (pairGraph (now (v .entry)) b (now (w .entry)) c) k && (pairGraph (now (v .entry)) b (now (w .entry)) c .ref x && eqb y (start (pairGraph (now (v .entry)) b (now (w .entry)) c) k)))) ⌝ }
-{
-    if k < p.definitions + q.definitions {
-        let kind = kind_of(v, w, x);
-        if stored::is_reference(kind) {
-            return y == start_of(v, w, p, q, roots, k);
-        }
-        return false;
-    }
-    false
-}
-
-// The stamp of search k; m searches are the definitions'.
-pub fn stamp_of(m: usize, k: usize) -> usize
-    requires { ⌜ (m < 4096) × (k < 4096) ⌝ }
-    ensures { λ r. ⌜ r ≡ cond (ltb k m) (k + 1) (m + 1) ⌝ }
-{
-    if k < m {
-        return k + 1;
-    }
-    m + 1
+    let kind = kind_of(v, w, x);
+    stored::is_reference(kind)
 }
 
 // The node of index i; the first ad has n.

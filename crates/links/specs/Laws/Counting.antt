@@ -1,19 +1,18 @@
 -- What is counted and found in a stored ad. Assumes nothing.
-use mathlib.Core.Path.{_≡_, refl, sym, ap, _∙_, subst}
+use mathlib.Core.Path.{_≡_, refl, sym, ap, subst}
 use mathlib.Core.Logic.{_≢_, _⊎_, inl, inr}
 use mathlib.Core.Bool.{Bool, true, false, cond}
-use mathlib.Core.List.{List, [], _∷_, _++_, map}
-use Prim.Native.Nat.{ℕ, zero, suc, _+_, _-_, _*_, _≤_, _<_}
-use native.Mathlib.Decide.{ℕ-discrete, decLt}
+use mathlib.Core.List.{List, [], _∷_, map}
+use Prim.Native.Nat.{ℕ, zero, suc, _+_, _≤_, _<_}
 use native.Mathlib.Nat.{le-refl}
 use native.Mathlib.Omega.{arith}
-use lib.ListN.{length, getD, take, drop, length-map}
+use lib.ListN.{length}
 use lib.Dec.{eqb, ltb}
 use Rattle.text.specs.Strings.{sameName}
 use Rattle.syntax.specs.Bounds.{maxNodes, maxDefinitions}
 use Rattle.graph.specs.Members.{_∈_, here, there, Each}
-use Rattle.graph.specs.Laws.Members.{mem-nil, mem-cons, mem-cast, eqb-yes, eqb-no}
-use Rattle.ad.specs.Stored.{leading, nodeCount, definitionCount, kindAt, operandAt, offsetAt, lengthAt, rootAt, bytesAt, findFrom, find, rootsFrom, operands, arity}
+use Rattle.graph.specs.Laws.Members.{mem-nil, mem-cons, eqb-yes, eqb-no}
+use Rattle.ad.specs.Stored.{leading, nodeCount, definitionCount, kindAt, offsetAt, lengthAt, rootAt, bytesAt, findFrom, find, rootsFrom, arity}
 
 -- ---- what stands before the first 0
 
@@ -59,18 +58,7 @@ pub definitions-few : (w : List ℕ) → definitionCount w ≤ maxDefinitions
 unfolding definitionCount
 definitions-few w = leading-le (lengthAt w) 0 maxDefinitions
 
--- ---- definitions by their index
-
-pub roots-length : (w : List ℕ) (j k : ℕ) → length (rootsFrom w j k) ≡ k
-unfolding rootsFrom
-roots-length w j zero = refl
-roots-length w j (suc k) = ap suc (roots-length w (suc j) k)
-
-pub roots-at : (w : List ℕ) (j k i : ℕ) → i < k → getD (rootsFrom w j k) i 0 ≡ rootAt w (j + i)
-unfolding rootsFrom
-roots-at w j zero i h = absurd (let q : ⊥ = omega arith in q)
-roots-at w j (suc k) zero h = ap (rootAt w) (let q : j ≡ j + 0 = omega arith in q)
-roots-at w j (suc k) (suc i) h = roots-at w (suc j) k i (omega arith) ∙ ap (rootAt w) (let q : suc j + i ≡ j + suc i = omega arith in q)
+-- ---- the roots of definitions
 
 -- each is the root of a definition
 pub roots-each : (w : List ℕ) (P : ℕ → Type 0) (j k : ℕ) → ((i : ℕ) → i < k → P (rootAt w (j + i))) → Each P (rootsFrom w j k)
@@ -120,14 +108,6 @@ found-root w b name y m = find-roots w b name 0 (definitionCount w) y m
 
 -- ---- a list of images
 
-pub map-each : {A : Type 0} (f : A → ℕ) (P : ℕ → Type 0) (l : List A) → ((a : A) → P (f a)) → Each P (map f l)
-map-each f P [] h x m = absurd (mem-nil m)
-map-each f P (a ∷ l) h x m = go (λ n. map-each f P l h x n) (mem-cons m)
-  where
-    go : (x ∈ map f l → P x) → (x ≡ f a) ⊎ (x ∈ map f l) → P x
-    go ih (inl e) = subst P (sym e) (h a)
-    go ih (inr n) = ih n
-
 pub map-from : (f : ℕ → ℕ) (P : ℕ → Type 0) (l : List ℕ) → ((y : ℕ) → y ∈ l → P (f y)) → Each P (map f l)
 map-from f P [] h x m = absurd (mem-nil m)
 map-from f P (a ∷ l) h x m = go (λ n. map-from f P l (λ y k. h y (there k)) x n) (mem-cons m)
@@ -135,10 +115,6 @@ map-from f P (a ∷ l) h x m = go (λ n. map-from f P l (λ y k. h y (there k)) 
     go : (x ∈ map f l → P x) → (x ≡ f a) ⊎ (x ∈ map f l) → P x
     go ih (inl e) = subst P (sym e) (h a (here refl))
     go ih (inr n) = ih n
-
-pub map-in : (f : ℕ → ℕ) (l : List ℕ) (y : ℕ) → y ∈ l → f y ∈ map f l
-map-in f (a ∷ l) y (here e) = here (ap f e)
-map-in f (a ∷ l) y (there m) = there (map-in f l y m)
 
 -- ---- operands
 

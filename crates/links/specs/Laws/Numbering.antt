@@ -1,23 +1,21 @@
 -- The graph of two ads by the numbers of its nodes: each way through the functions that read it. Assumes nothing.
 use mathlib.Core.Path.{_≡_, refl, sym, ap, _∙_, subst}
-use mathlib.Core.Logic.{_≢_, _⊎_, inl, inr}
+use mathlib.Core.Logic.{_≢_}
 use mathlib.Core.Bool.{Bool, true, false, cond, not, _&&_, _||_}
-use mathlib.Core.List.{List, [], _∷_, _++_, map}
-use Prim.Native.Nat.{ℕ, zero, suc, _+_, _-_, _*_, _≤_, _<_}
-use native.Mathlib.Decide.{ℕ-discrete, decLt}
-use native.Mathlib.Numerals.{add-one}
+use mathlib.Core.List.{List, [], _∷_, map}
+use Prim.Native.Nat.{ℕ, zero, suc, _+_, _-_, _≤_, _<_}
+use native.Mathlib.Decide.{decLt}
 use native.Mathlib.Omega.{arith}
-use lib.ListN.{length, getD, take, length-append, length-map, length-take, List·getD-append}
-use lib.Seq.{getD-append-add, getD-take, length-take-le}
-use lib.Dec.{eqb, ltb}
-use Rattle.syntax.specs.Bounds.{maxNodes}
+use lib.ListN.{length, getD, length-map}
+use lib.Seq.{getD-take, length-take-le}
+use lib.Dec.{ltb}
 use Rattle.graph.specs.Members.{_∈_}
 use Rattle.graph.specs.Laws.Members.{eqb-yes, eqb-no, ltb-yes, ltb-no, ltb-true, at-mem}
 use Rattle.graph.specs.Graph.{Graph}
-use Rattle.graph.specs.Transition.{flags, stampOf, searches, start, led, recordedAs, goes, marked}
-use Rattle.ad.specs.Stored.{kindAt, operandAt, rootAt, nameAt, nodeCount, definitionCount, arity, operands, isOwn, isOther, isReference, find, rootsFrom}
+use Rattle.graph.specs.Transition.{led, needed, recordedAs, marked}
+use Rattle.ad.specs.Stored.{kindAt, operandAt, rootAt, nameAt, nodeCount, arity, operands, isOwn, isOther, isReference, find}
 use Rattle.links.specs.Pair.{numbered, linked, inside, across, linksFrom, refersAt, both, pairGraph, Formed, Measured, Stands}
-use Rattle.links.specs.Laws.Counting.{nodes-few, definitions-few, arity-few, roots-length, roots-at}
+use Rattle.links.specs.Laws.Counting.{nodes-few, definitions-few, arity-few}
 use Rattle.links.specs.Laws.Soundness.{both-low, both-high}
 use Rattle.graph.specs.Members.{numbers, raised}
 
@@ -135,12 +133,6 @@ module _ (w b w′ b′ : List ℕ) (s : Bool) (j : ℕ) (h : j < nodeCount w) w
 -- ---- the pair's graph
 
 module _ (v b w c : List ℕ) (x : ℕ) (s : Stands v w x) where
-  G : Graph
-  G = pairGraph v b w c
-
-  kd : ℕ
-  kd = both (kindAt v) (kindAt w) x
-
   pub ref-is : pairGraph v b w c .ref x ≡ isReference (both (kindAt v) (kindAt w) x)
   unfolding pairGraph refersAt
   ref-is = go (decLt x 1024)
@@ -167,17 +159,17 @@ module _ (v b w c : List ℕ) (x : ℕ) (s : Stands v w x) where
       e ∙ ap (λ (t : Bool). cond t (marked (map (linked true) (linksFrom w c v b (x - 1024)))) 0) (ap isReference (sym (both-high (kindAt v) (kindAt w) x h)) ∙ sym ref-is)
       ∙ ap (λ (l : List ℕ). cond (pairGraph v b w c .ref x) (marked l) 0) (sym (both-high (λ i. map (linked false) (linksFrom v b w c i)) (λ i. map (linked true) (linksFrom w c v b i)) x h))
 
-  module _ {k : ℕ} {t : Bool} (ke : k ≡ both (kindAt v) (kindAt w) x) (te : t ≡ isReference k) (ta : List ℕ) where
-    pub ref-test : pairGraph v b w c .ref x ≡ t
-    ref-test = ref-is ∙ sym (te ∙ ap isReference ke)
+  pub ref-test : {k : ℕ} {t : Bool} → k ≡ both (kindAt v) (kindAt w) x → t ≡ isReference k → t ≡ pairGraph v b w c .ref x
+  ref-test ke te = te ∙ ap isReference ke ∙ sym ref-is
 
+  module _ {k : ℕ} {t : Bool} (ke : k ≡ both (kindAt v) (kindAt w) x) (te : t ≡ isReference k) (ta : List ℕ) where
     led-recorded : t ≡ true → led (pairGraph v b w c) (numbers ta) x ≡ recordedAs (pairGraph v b w c) (getD ta x 0)
     unfolding led
-    led-recorded e = rw (ref-test ∙ e) refl
+    led-recorded e = rw (sym (ref-test ke te) ∙ e) refl
 
     led-links : t ≡ false → led (pairGraph v b w c) (numbers ta) x ≡ pairGraph v b w c .links x
     unfolding led
-    led-links e = rw (ref-test ∙ e) refl
+    led-links e = rw (sym (ref-test ke te) ∙ e) refl
 
     recorded-far : (u : ℕ) → 2048 < u → recordedAs (pairGraph v b w c) u ≡ []
     unfolding recordedAs pairGraph
@@ -291,112 +283,31 @@ module _ (v b w c : List ℕ) (x : ℕ) (s : Stands v w x) where
               q ∙ both-high _ _ x h ∙ ap (λ (u : ℕ). 1024 + u) (sym (operands-at w (x - 1024) i (second-lt h)))
               ∙ sym (ap (λ (l : List ℕ). getD l i 0) (links-second e h) ∙ map-at (numbered true) (operands w (x - 1024)) i (rw (operands-long w (x - 1024)) (second-lt h)))
 
--- ---- the links that a search follows
+-- ---- what a node needs, by its marks
 
-module _ (H : Graph) (m k x : ℕ) (ta fl : List ℕ) (e : length (H .sources) ≡ m) where
-  flags-yes : k < m → flags H k ≡ true
-  unfolding flags
-  flags-yes h = ltb-yes (let q : k < length (H .sources) = omega arith in q)
+module _ (H : Graph) (x : ℕ) (ta fl : List ℕ) where
+  pub need-none : getD fl x 0 ≡ 1 → 0 ≡ length (needed H (numbers ta) (raised fl) x)
+  unfolding needed
+  need-none e = rw (eqb-yes e) refl
 
-  flags-no : m ≤ k → flags H k ≡ false
-  unfolding flags
-  flags-no h = ltb-no (let q : length (H .sources) ≤ k = omega arith in q)
+  pub need-led : {r : ℕ} → getD fl x 0 ≢ 1 → r ≡ length (led H (numbers ta) x) → r ≡ length (needed H (numbers ta) (raised fl) x)
+  unfolding needed
+  need-led n e = e ∙ rw (eqb-no n) refl
 
-  pub degree-flags : {r : ℕ} → k < m → r ≡ length (led H (numbers ta) x) → r ≡ length (goes H k (numbers ta) (raised fl) x)
-  unfolding goes
-  degree-flags h q = q ∙ rw (flags-yes h) refl
-
-  pub degree-circular : m ≤ k → getD fl x 0 ≡ 1 → 0 ≡ length (goes H k (numbers ta) (raised fl) x)
-  unfolding goes
-  degree-circular h q = rw (flags-no h, eqb-yes q) refl
-
-  pub degree-lists : {r : ℕ} → m ≤ k → getD fl x 0 ≢ 1 → r ≡ length (led H (numbers ta) x) → r ≡ length (goes H k (numbers ta) (raised fl) x)
-  unfolding goes
-  degree-lists h n q = q ∙ rw (flags-no h, eqb-no n) refl
-
-  pub closes-late : m ≤ k → (d : Bool) → false ≡ (flags H k && d)
-  closes-late h d = rw (flags-no h) refl
-
-  pub closes-plain : k < m → {t : Bool} (d : Bool) → H .ref x ≡ t → t ≡ false → false ≡ (flags H k && (H .ref x && d))
-  closes-plain h d p q = rw (flags-yes h, p ∙ q) refl
-
-  pub closes-test : k < m → {t : Bool} (y z : ℕ) → H .ref x ≡ t → t ≡ true → z ≡ start H k → eqb y z ≡ (flags H k && (H .ref x && eqb y (start H k)))
-  closes-test h y z p q r = rw (flags-yes h, p ∙ q) (ap (eqb y) r)
-
-  pub stamp-is : {t : ℕ} → t ≡ cond (ltb k m) (k + 1) (m + 1) → t ≡ stampOf H k
-  unfolding stampOf flags
-  stamp-is q = q ∙ rw (e, add-one k, add-one m) refl
-
--- a link that a search follows is one that the node leads to
-goes-led : (H : Graph) (k x i : ℕ) (ta fl : List ℕ) → i < length (goes H k (numbers ta) (raised fl) x) → goes H k (numbers ta) (raised fl) x ≡ led H (numbers ta) x
-unfolding goes
-goes-led H k x i ta fl h = go (flags H k) (raised fl x) h
+-- a node that needs any needs all that it leads to
+needed-led : (H : Graph) (x i : ℕ) (ta fl : List ℕ) → i < length (needed H (numbers ta) (raised fl) x) → needed H (numbers ta) (raised fl) x ≡ led H (numbers ta) x
+unfolding needed
+needed-led H x i ta fl h = go (raised fl x) h
   where
-    go : (p q : Bool) → i < length (cond p (led H (numbers ta) x) (cond q [] (led H (numbers ta) x))) →
-        cond p (led H (numbers ta) x) (cond q [] (led H (numbers ta) x)) ≡ led H (numbers ta) x
-    go true q z = refl
-    go false true z = absurd (let a : i < 0 = z in let b : ⊥ = omega arith in b)
-    go false false z = refl
+    go : (q : Bool) → i < length (cond q [] (led H (numbers ta) x)) → cond q [] (led H (numbers ta) x) ≡ led H (numbers ta) x
+    go true z = absurd (let a : i < 0 = z in let b : ⊥ = omega arith in b)
+    go false z = refl
 
-pub goes-in : (H : Graph) (k x i : ℕ) (ta fl : List ℕ) → i < length (goes H k (numbers ta) (raised fl) x) → i < length (led H (numbers ta) x)
-goes-in H k x i ta fl h = subst (λ (l : List ℕ). i < length l) (goes-led H k x i ta fl h) h
+pub needed-in : (H : Graph) (x i : ℕ) (ta fl : List ℕ) → i < length (needed H (numbers ta) (raised fl) x) → i < length (led H (numbers ta) x)
+needed-in H x i ta fl h = subst (λ (l : List ℕ). i < length l) (needed-led H x i ta fl h) h
 
-pub goes-next : (H : Graph) (k x i y : ℕ) (ta fl : List ℕ) → i < length (goes H k (numbers ta) (raised fl) x) → y ≡ getD (led H (numbers ta) x) i 0 → y ≡ getD (goes H k (numbers ta) (raised fl) x) i 0
-goes-next H k x i y ta fl h e = e ∙ sym (ap (λ (l : List ℕ). getD l i 0) (goes-led H k x i ta fl h))
-
--- ---- where the searches begin
-
-module _ (v b w c : List ℕ) where
-  pub sources-long : length (pairGraph v b w c .sources) ≡ definitionCount v + definitionCount w
-  unfolding pairGraph
-  sources-long =
-      let a = length-append (rootsFrom v 0 (definitionCount v)) (map (numbered true) (rootsFrom w 0 (definitionCount w))) in
-      let d = length-map (rootsFrom w 0 (definitionCount w)) (numbered true) in
-      omega (arith, roots-length v 0 (definitionCount v), roots-length w 0 (definitionCount w))
-
-  module _ {n d n′ d′ : ℕ} (p : Measured v n d) (q : Measured w n′ d′) (k : ℕ) where
-    pub sources-are : length (pairGraph v b w c .sources) ≡ d + d′
-    sources-are = let a = p .definitions-are in let e = q .definitions-are in let g = sources-long in omega arith
-
-    pub start-first : {r : ℕ} → k < d → r ≡ rootAt v k → r ≡ start (pairGraph v b w c) k
-    unfolding start pairGraph
-    start-first {r} h e =
-        let a : k < definitionCount v = let z = p .definitions-are in omega arith in
-        let l : k < length (rootsFrom v 0 (definitionCount v)) = rw (roots-length v 0 (definitionCount v)) a in
-        let l′ : k < length (rootsFrom v 0 (definitionCount v) ++ map (numbered true) (rootsFrom w 0 (definitionCount w))) =
-        let z = length-append (rootsFrom v 0 (definitionCount v)) (map (numbered true) (rootsFrom w 0 (definitionCount w))) in omega arith in
-        e ∙ ap (rootAt v) (let z : k ≡ 0 + k = omega arith in z) ∙ sym (roots-at v 0 (definitionCount v) k a)
-        ∙ sym (List·getD-append (rootsFrom v 0 (definitionCount v)) (map (numbered true) (rootsFrom w 0 (definitionCount w))) 0 k l)
-        ∙ sym (List·getD-append (rootsFrom v 0 (definitionCount v) ++ map (numbered true) (rootsFrom w 0 (definitionCount w))) (pairGraph v b w c .roots) 0 k l′)
-
-    pub start-second : {r j : ℕ} → d ≤ k → j ≡ k - d → j < d′ → r ≡ rootAt w j → 1024 + r ≡ start (pairGraph v b w c) k
-    unfolding start pairGraph
-    start-second {r} {j} h je lt e =
-        let a = p .definitions-are in
-        let g = q .definitions-are in
-        let f : j < definitionCount w = omega arith in
-        let r₁ = rootsFrom v 0 (definitionCount v) in
-        let r₂ = rootsFrom w 0 (definitionCount w) in
-        let k₁ : k ≡ length (rootsFrom v 0 (definitionCount v)) + j = let z = roots-length v 0 (definitionCount v) in omega arith in
-        let f′ : j < length (rootsFrom w 0 (definitionCount w)) = rw (roots-length w 0 (definitionCount w)) f in
-        let l′ : k < length (rootsFrom v 0 (definitionCount v) ++ map (numbered true) (rootsFrom w 0 (definitionCount w))) =
-        let z = length-append (rootsFrom v 0 (definitionCount v)) (map (numbered true) (rootsFrom w 0 (definitionCount w))) in
-        let y = length-map (rootsFrom w 0 (definitionCount w)) (numbered true) in
-        omega arith in
-        ap (λ (u : ℕ). 1024 + u) (e ∙ ap (rootAt w) (let z : j ≡ 0 + j = omega arith in z) ∙ sym (roots-at w 0 (definitionCount w) j f))
-        ∙ sym (map-at (numbered true) (rootsFrom w 0 (definitionCount w)) j f′)
-        ∙ sym (getD-append-add (rootsFrom v 0 (definitionCount v)) (map (numbered true) (rootsFrom w 0 (definitionCount w))) j 0)
-        ∙ ap (λ (u : ℕ). getD (rootsFrom v 0 (definitionCount v) ++ map (numbered true) (rootsFrom w 0 (definitionCount w))) u 0) (sym k₁)
-        ∙ sym (List·getD-append (rootsFrom v 0 (definitionCount v) ++ map (numbered true) (rootsFrom w 0 (definitionCount w))) (pairGraph v b w c .roots) 0 k l′)
-
-    pub start-root : (roots : List ℕ) {i : ℕ} → roots ≡ pairGraph v b w c .roots → d + d′ ≤ k → i ≡ k - d - d′ → getD roots i 0 ≡ start (pairGraph v b w c) k
-    unfolding start
-    start-root roots {i} re h ie =
-        let g = sources-are in
-        let k₁ : k ≡ length (pairGraph v b w c .sources) + i = omega arith in
-        ap (λ (l : List ℕ). getD l i 0) re
-        ∙ sym (getD-append-add (pairGraph v b w c .sources) (pairGraph v b w c .roots) i 0)
-        ∙ ap (λ (u : ℕ). getD (pairGraph v b w c .sources ++ pairGraph v b w c .roots) u 0) (sym k₁)
+pub needed-next : (H : Graph) (x i y : ℕ) (ta fl : List ℕ) → i < length (needed H (numbers ta) (raised fl) x) → y ≡ getD (led H (numbers ta) x) i 0 → y ≡ getD (needed H (numbers ta) (raised fl) x) i 0
+needed-next H x i y ta fl h e = e ∙ sym (ap (λ (l : List ℕ). getD l i 0) (needed-led H x i ta fl h))
 
 -- ---- small facts of the counts
 

@@ -1,22 +1,18 @@
 -- The roots that are entered. Assumes nothing.
 use mathlib.Core.Path.{_≡_, refl, sym, ap, _∙_, subst}
-use mathlib.Core.Logic.{_≢_, _⊎_, inl, inr}
-use mathlib.Core.Bool.{Bool, true, false, cond}
+use mathlib.Core.Logic.{_≢_}
+use mathlib.Core.Bool.{Bool, true, false}
 use mathlib.Core.List.{List, [], _∷_, _++_, map, append-assoc, append-nil}
-use Prim.Native.Nat.{ℕ, zero, suc, _+_, _-_, _*_, _≤_, _<_}
+use Prim.Native.Nat.{ℕ, suc, _+_, _-_, _≤_, _<_}
 use native.Mathlib.Numerals.{add-one}
 use native.Mathlib.Omega.{arith}
 use lib.ListN.{length, getD, take, set, length-map}
 use lib.Seq.{take-suc-set}
-use lib.Dec.{ltb}
 use Rattle.graph.specs.Members.{_∈_}
-use Rattle.graph.specs.Laws.Members.{ltb-yes, ltb-no, at-mem}
-use Rattle.graph.specs.Graph.{Graph, Node}
+use Rattle.graph.specs.Laws.Members.{at-mem}
 use Rattle.graph.specs.Transition.{marked}
-use Rattle.graph.specs.declared.Place.{Place}
-use Rattle.graph.specs.declared.Place.the-variants.{Resolving, Between, Inside}
-use Rattle.ad.specs.Stored.{nodeCount, find}
-use Rattle.links.specs.Pair.{numbered, rootsOf, requirements, rank, pairGraph, Measured, Stands}
+use Rattle.ad.specs.Stored.{find}
+use Rattle.links.specs.Pair.{numbered, rootsOf, requirements, rank, pairGraph, Measured}
 use Rattle.links.specs.Laws.Counting.{found-few}
 use Rattle.links.specs.Laws.Soundness.{pair-sound}
 use Rattle.links.specs.Laws.Numbering.{stands-small}

@@ -1,21 +1,20 @@
 -- Two well-formed ads give a sound graph. Assumes nothing.
 use mathlib.Core.Path.{_≡_, refl, sym, ap, _∙_, subst}
-use mathlib.Core.Logic.{_≢_, _⊎_, inl, inr}
+use mathlib.Core.Logic.{_⊎_, inl, inr}
 use mathlib.Core.Bool.{Bool, true, false, cond, not, _&&_}
 use mathlib.Core.List.{List, [], _∷_, _++_, map}
-use Prim.Native.Nat.{ℕ, zero, suc, _+_, _-_, _*_, _≤_, _<_, min}
-use native.Mathlib.Decide.{ℕ-discrete, decLt}
-use native.Mathlib.Nat.{le-refl}
+use Prim.Native.Nat.{ℕ, _+_, _-_, _≤_, _<_}
+use native.Mathlib.Decide.{decLt}
 use native.Mathlib.Omega.{arith}
-use lib.ListN.{length, getD, take, drop, length-map, length-append, length-take}
-use lib.Dec.{eqb, ltb}
-use Rattle.syntax.specs.Bounds.{maxNodes, maxDefinitions}
-use Rattle.graph.specs.Members.{_∈_, here, there, Each, Distinct, Room}
-use Rattle.graph.specs.Laws.Members.{mem-nil, mem-cons, mem-cast, mem-left, mem-right, mem-append, eqb-yes, eqb-no, ltb-yes, ltb-no, ltb-true, Sides, room-sides}
+use lib.ListN.{length, length-map, length-append, length-take}
+use lib.Dec.{ltb}
+use Rattle.syntax.specs.Bounds.{maxNodes}
+use Rattle.graph.specs.Members.{_∈_, here, there, Each}
+use Rattle.graph.specs.Laws.Members.{mem-nil, mem-cons, mem-append, ltb-yes, ltb-no, ltb-true, Sides, room-sides}
 use Rattle.graph.specs.Graph.{Graph, Node, Sound}
-use Rattle.ad.specs.Stored.{kindAt, nodeCount, definitionCount, isOwn, isOther, isReference, operands, nameAt, rootAt, find, rootsFrom, arity}
+use Rattle.ad.specs.Stored.{kindAt, nodeCount, definitionCount, isOwn, isOther, operands, nameAt, rootAt, find, rootsFrom}
 use Rattle.links.specs.Pair.{Link, numbered, linked, inside, across, linksFrom, refersAt, both, rootsOf, requirements, rank, pairGraph, Formed}
-use Rattle.links.specs.Laws.Counting.{nodes-few, definitions-few, roots-length, roots-each, found-few, found-root, map-each, map-from, map-in, arity-few}
+use Rattle.links.specs.Laws.Counting.{nodes-few, roots-each, found-few, found-root, map-from, arity-few}
 
 -- ---- the two sides
 
@@ -39,20 +38,9 @@ both-each P p q f g x = go (decLt x maxNodes)
         let e : maxNodes + (x - maxNodes) ≡ x = omega arith in
         rw (both-high p q x h) (subst (λ (u : ℕ). P u (q (x - maxNodes))) e (g (x - maxNodes)))
 
-ltb-off : {a b : ℕ} → ltb a b ≡ false → b ≤ a
-ltb-off {a} {b} e = go (decLt a b)
-  where
-    go : Dec (a < b) → b ≤ a
-    go (yes h) = absurd (let z : true ≡ false = sym (ltb-yes h) ∙ e in let y : _≡_ {A = ℕ} 0 1 = cc in let w : ⊥ = omega arith in w)
-    go (no n) = let k : ¬ (a < b) = n in omega arith
-
 and-first : (a b : Bool) → (a && b) ≡ true → a ≡ true
 and-first true b e = refl
 and-first false b e = e
-
-and-second : (a b : Bool) → (a && b) ≡ true → b ≡ true
-and-second true b e = e
-and-second false b e = let z : _≡_ {A = ℕ} 0 1 = cc in absurd (let y : ⊥ = omega arith in y)
 
 never : false ≡ true → ⊥
 never e = let z : _≡_ {A = ℕ} 0 1 = cc in omega arith
@@ -112,16 +100,6 @@ module _ (w b w′ b′ : List ℕ) where
         go : (x ∈ map (linked s) (map across l) → Q x) → (x ≡ numbered (not s) a) ⊎ (x ∈ map (linked s) (map across l)) → Q x
         go ih (inl e) = subst Q (sym e) (f a (here refl))
         go ih (inr n) = ih n
-
-    -- a reference's links are roots of definitions
-    named-each : (Q : ℕ → Type 0) → ((y : ℕ) → y ∈ rootsFrom w 0 (definitionCount w) → Q (numbered s y)) →
-        ((y : ℕ) → y ∈ rootsFrom w′ 0 (definitionCount w′) → Q (numbered (not s) y)) →
-        (i : ℕ) → refersAt w i ≡ true → Each Q (map (linked s) (linksFrom w b w′ b′ i))
-    named-each Q f g =
-        links-each (λ i l. refersAt w i ≡ true → Each Q (map (linked s) l)) (λ i e y m. absurd (mem-nil m))
-        (λ i h r e. inside-each Q (find w b (nameAt w b i)) (λ y m. f y (found-root w b (nameAt w b i) y m)))
-        (λ i h r e. across-each Q (find w′ b′ (nameAt w b i)) (λ y m. g y (found-root w′ b′ (nameAt w b i) y m)))
-        (λ i h r e. absurd (never (sym r ∙ e)))
 
     -- an operator's links are its operands, which stand below it
     falls-each : Formed w → (i : ℕ) → refersAt w i ≡ false → Each (λ y. y < numbered s i) (map (linked s) (linksFrom w b w′ b′ i))
@@ -236,33 +214,12 @@ module _ (v b w c : List ℕ) (fv : Formed v) (fw : Formed w) where
           let h : maxNodes ≤ x = let k : ¬ (x < maxNodes) = n in omega arith in
           both-high _ _ x h ∙ and-first _ _ (sym (both-high _ _ x h) ∙ e)
 
-  source-first : (y : ℕ) → y ∈ rootsFrom v 0 (definitionCount v) → numbered false y ∈ G .sources
-  unfolding pairGraph
-  source-first y m = mem-left _ m
-
-  source-second : (y : ℕ) → y ∈ rootsFrom w 0 (definitionCount w) → numbered true y ∈ G .sources
-  unfolding pairGraph
-  source-second y m = mem-right (rootsFrom v 0 (definitionCount v)) (map-in (numbered true) _ y m)
-
   append-each : (l m : List ℕ) → Each (Node G) l → Each (Node G) m → Each (Node G) (l ++ m)
   append-each l m f g x k = go (mem-append l k)
     where
       go : (x ∈ l) ⊎ (x ∈ m) → Node G x
       go (inl n) = f x n
       go (inr n) = g x n
-
-  sound-sources-in : Each (Node G) (G .sources)
-  unfolding pairGraph
-  sound-sources-in =
-      append-each _ _ (λ y m. first-node y (root-in v fv y m))
-      (map-from (numbered true) (Node G) (rootsFrom w 0 (definitionCount w)) (λ y m. second-node y (root-in w fw y m)))
-
-  sound-sources-few : length (G .sources) ≤ nodeCount v + nodeCount w
-  unfolding pairGraph
-  sound-sources-few =
-      let a = length-append (rootsFrom v 0 (definitionCount v)) (map (numbered true) (rootsFrom w 0 (definitionCount w))) in
-      let d = length-map (rootsFrom w 0 (definitionCount w)) (numbered true) in
-      omega (arith, roots-length v 0 (definitionCount v), roots-length w 0 (definitionCount w), fv .definitions-few, fw .definitions-few)
 
   first-roots : (name : List ℕ) → Each (Node G) (rootsOf false v b name)
   first-roots name = map-from (numbered false) (Node G) (find v b name) (λ y m. first-node y (root-in v fv y (found-root v b name y m)))
@@ -302,11 +259,6 @@ module _ (v b w c : List ℕ) (fv : Formed v) (fw : Formed w) where
     single = ref-each (λ x l. length l ≤ 1) true
         (λ i r. rw (length-map (linksFrom v b w c i) (linked false)) (links-single v b w c i r))
         (λ i r. rw (length-map (linksFrom w c v b i) (linked true)) (links-single w c v b i r));
-    named = λ x y r m. ref-each (λ x l. Each (λ y. y ∈ G .sources) l) true
-        (named-each v b w c false (λ y. y ∈ G .sources) source-first source-second)
-        (named-each w c v b true (λ y. y ∈ G .sources) source-second source-first) x r y m;
-    sources-in = sound-sources-in;
-    sources-few = sound-sources-few;
     roots-in = sound-roots-in;
     roots-few = sound-roots-few;
   }
