@@ -1,31 +1,55 @@
--- The traversal's memory: the place, the marks and the list as the rule's state. An index of each slice of marks is a node's
--- number. Assumes nothing.
+-- The traversal's memory: the place, the marks and the list as the rule's state. Assumes nothing.
 use mathlib.Core.Path.{_≡_}
 use mathlib.Core.Logic.{_⊎_}
-use mathlib.Core.Bool.{Bool, true, false, cond, _&&_}
+use mathlib.Core.Bool.{Bool, true, false, cond}
 use mathlib.Core.List.{List, [], _∷_}
-use Prim.Native.Nat.{ℕ, zero, suc, _+_, _≤_, _<_}
+use Prim.Native.Nat.{ℕ, zero, suc, _+_, _*_, _≤_, _<_}
 use lib.ListN.{length, getD, set, take}
-use lib.Dec.{eqb}
 use Rattle.graph.specs.Members.{numbers, raised}
 use Rattle.graph.specs.Graph.{Graph}
-use Rattle.graph.specs.Transition.{State, flags, stampOf, searches, start, goes, marked}
+use Rattle.graph.specs.Transition.{State, searches, start, led, needed, marked}
 use Rattle.graph.specs.declared.Place.{Place}
 
--- the state that a place, a length of the list, five slices of marks and the list's room hold: 'the hunt's place, the marks, the
--- list' (docs/LAYOUT.md: 'Layouts are the team's, written in docs/')
-unfoldable pub view : Place → ℕ → (target stamp from followed flag list : List ℕ) → State
-view place len target stamp from followed flag list = record {
+-- ---- layout (docs/LAYOUT.md: 'Layouts are the team's, written in docs/')
+
+-- how many nodes have marks: every node of each side, '1,024 a side'
+abbrev pub marksRoom : ℕ
+marksRoom = 2048
+
+-- how many marks a node has in one slice, besides its target and its flag, which have slices of their own
+abbrev pub perNode : ℕ
+perNode = 6
+
+-- the numbers of that slice
+abbrev pub markWords : ℕ
+markWords = 12288
+
+-- mark j of the node x; of the slice of marks, the stamp is mark 0, from 1, followed 2, height 3, below 4, saved 5
+abbrev pub markAt : List ℕ → ℕ → ℕ → ℕ
+markAt marks j x = getD marks (x * perNode + j) 0
+
+-- the state that a place, a length of the list, three slices of marks and the list's room hold: 'the hunt's place, the marks, the
+-- list'
+unfoldable pub view : Place → ℕ → (target marks flag list : List ℕ) → State
+view place len target marks flag list = record {
   place = place;
   target = numbers target;
-  stamp = numbers stamp;
-  from = numbers from;
-  followed = numbers followed;
+  stamp = markAt marks 0;
+  from = markAt marks 1;
+  followed = markAt marks 2;
   flag = raised flag;
+  height = markAt marks 3;
+  below = markAt marks 4;
+  saved = markAt marks 5;
   list = take len list;
 }
 
--- the flags, one set where b holds: for 'changes, besides its own place, only that node's marks'
+-- the marks of the node x from mark j on become these numbers
+unfoldable pub fill : List ℕ → ℕ → ℕ → List ℕ → List ℕ
+fill marks x j [] = marks
+fill marks x j (a ∷ vs) = fill (set marks (x * perNode + j) a) x (suc j) vs
+
+-- the flags, one set where b holds
 unfoldable pub flaggedAt : List ℕ → ℕ → Bool → List ℕ
 flaggedAt flag x b = cond b (set flag x 1) flag
 
@@ -33,38 +57,46 @@ flaggedAt flag x b = cond b (set flag x 1) flag
 abbrev pub Flagged : ℕ → List ℕ → List ℕ → Type 0
 Flagged x before after = (after ≡ before) ⊎ (after ≡ set before x 1)
 
--- the room of each slice: every node of each side has its own, '1,024 a side' (docs/LAYOUT.md: 'Layouts are the team's, written
--- in docs/')
-abbrev pub marksRoom : ℕ
-marksRoom = 2048
-
 -- ---- what a transition goes by: facts of the place and of the node or link at hand, and none of the other marks
 
--- the i-th node, x, is to be resolved: for 'the one node or link at hand alone'
+-- the i-th node, x, of n is to be resolved: for 'the one node or link at hand alone'
 pub record AtNode (G : Graph) (i n x found : ℕ) : Type 0 where
   pub size-is : n ≡ G .size
   pub node-is : x ≡ G .nth i
   pub found-is : found ≡ cond (G .ref x) (marked (G .links x)) 0
 
--- search k is to begin, at y: for 'the one node or link at hand alone'
-pub record AtStart (G : Graph) (k y t : ℕ) : Type 0 where
+-- loop search k, of n, is to begin at y
+pub record AtSeek (G : Graph) (k n y : ℕ) : Type 0 where
+  pub size-is : n ≡ G .size
+  pub node-is : y ≡ G .nth k
+
+-- a loop search is at x, whose next link, the i-th, goes to y
+pub record AtLoopLink (G : Graph) (x y i : ℕ) (refers : Bool) (target marks : List ℕ) : Type 0 where
+  pub index-is : i ≡ markAt marks 2 x
+  pub more : i < length (led G (numbers target) x)
+  pub next-is : y ≡ getD (led G (numbers target) x) i 0
+  pub refers-is : refers ≡ G .ref x
+
+-- a loop search, of n, is at x, which has no link left
+pub record AtLoopLast (G : Graph) (n x : ℕ) (target marks : List ℕ) : Type 0 where
+  pub size-is : n ≡ G .size
+  pub over : length (led G (numbers target) x) ≤ markAt marks 2 x
+
+-- list search k is to begin, at y
+pub record AtStart (G : Graph) (k y : ℕ) : Type 0 where
   pub search-in : k < searches G
   pub start-is : y ≡ start G k
-  pub stamp-is : t ≡ stampOf G k
 
--- search k is at x, whose next link, the i-th, goes to y: for 'the one node or link at hand alone'
-pub record AtLink (G : Graph) (k x y t i : ℕ) (closes : Bool) (target followed flag : List ℕ) : Type 0 where
-  pub stamp-is : t ≡ stampOf G k
-  pub index-is : i ≡ getD followed x 0
-  pub more : i < length (goes G k (numbers target) (raised flag) x)
-  pub next-is : y ≡ getD (goes G k (numbers target) (raised flag) x) i 0
-  pub closes-is : closes ≡ (flags G k && (G .ref x && eqb y (start G k)))
+-- a list search is at x, whose next need, the i-th, is y
+pub record AtLink (G : Graph) (x y i : ℕ) (target marks flag : List ℕ) : Type 0 where
+  pub index-is : i ≡ markAt marks 2 x
+  pub more : i < length (needed G (numbers target) (raised flag) x)
+  pub next-is : y ≡ getD (needed G (numbers target) (raised flag) x) i 0
 
--- search k is at x, which has no link left and was entered from f: for 'the one node or link at hand alone'
-pub record AtLast (G : Graph) (m k x f : ℕ) (target from followed flag : List ℕ) : Type 0 where
-  pub sources-are : length (G .sources) ≡ m
-  pub over : length (goes G k (numbers target) (raised flag) x) ≤ getD followed x 0
-  pub from-is : f ≡ getD from x 0
+-- a list search is at x, which has no need left and was entered from f
+pub record AtLast (G : Graph) (x f : ℕ) (target marks flag : List ℕ) : Type 0 where
+  pub over : length (needed G (numbers target) (raised flag) x) ≤ markAt marks 2 x
+  pub from-is : f ≡ markAt marks 1 x
 
 -- the list grows from len to len′ entries, and what lies behind them stays: for 'only that node's marks or one entry of the list'
 pub record Grows (len len′ : ℕ) (list list′ : List ℕ) : Type 0 where
@@ -79,19 +111,8 @@ abbrev pub Clear : List ℕ → Type 0
 Clear l = (i : ℕ) → getD l i 0 ≡ 0
 
 -- slices of marks, and of the list, long enough: for 'a list of 2,048 entries' and marks for 'Every node of each side'
-pub record Roomy (target stamp from followed flag list : List ℕ) : Type 0 where
+pub record Roomy (target marks flag list : List ℕ) : Type 0 where
   pub target-room : marksRoom ≤ length target
-  pub stamp-room : marksRoom ≤ length stamp
-  pub from-room : marksRoom ≤ length from
-  pub followed-room : marksRoom ≤ length followed
+  pub marks-room : markWords ≤ length marks
   pub flag-room : marksRoom ≤ length flag
   pub list-room : marksRoom ≤ length list
-
--- 'clear marks and an empty list'
-pub record Cleared (target stamp from followed flag list : List ℕ) : Type 0 where
-  pub target-clear : Clear target
-  pub stamp-clear : Clear stamp
-  pub from-clear : Clear from
-  pub followed-clear : Clear followed
-  pub flag-clear : Clear flag
-  pub list-clear : Clear list

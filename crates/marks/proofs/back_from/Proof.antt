@@ -10,5 +10,4 @@ returns-2 : tie.Need-returns-2
 returns-2 c = back-some _ _ (c .if1 .left)
 
 pub back-from-spec : {M : Type 1} → statement M
-back-from-spec = tie.close (tie.spec
-    (λ c. search needs) returns (λ c. search needs) returns-2)
+back-from-spec = tie.close (tie.spec (λ c. search needs) returns (λ c. search needs) returns-2)

@@ -1,17 +1,23 @@
-use mathlib.Core.Path.{refl}
-use mathlib.Core.Logic.{inl}
-use Rattle.marks.proofs.Rule.{follow-pass, follow-enter, flagged-by}
+use mathlib.Core.Path.{refl, sym, _∙_}
+use Rattle.marks.proofs.Rule.{follow-pass, follow-enter}
 use borrow.Author.Needs.{needs}
 use Rattle.marks.proofs.follow.Statement.{statement}
 use Rattle.marks.proofs.follow.Tie as tie
 
 returns : tie.Need-returns
-returns c = (λ G ta ls a. let e = c .before .before .before .before .pass .ensures in let p = c .before .before .before .before .before .before .before .before .before .before .before .before .before .pre in rw (e .0, e .1) (follow-pass a _ _ _ ls (p .0 .1) (p .0 .2) (c .before .before .before .before .before .before .before .if1 .taken)), (refl, flagged-by _ _ _ (c .before .before .before .before .pass .ensures .1)))
+returns c =
+    let d = c .before .before in
+    let t = d .before .before in
+    let p = t .before .before .before .before .pre in
+    (λ G ta fl ls a. rw (d .write .ensures) (follow-pass a _ _ ls (p .0) (p .3) (sym (t .before .read .ensures) ∙ t .if1 .taken)), refl)
 
 returns-2 : tie.Need-returns-2
-returns-2 c = (λ G ta ls a. let e = c .before .before .before .before .before .before .mark .ensures in let p = c .before .before .before .before .before .before .before .before .before .before .before .before .before .before .before .before .pre in rw (e .0, e .1, e .2) (follow-enter a _ _ _ ls (p .1 .0) (p .1 .1) (p .1 .2) (c .before .before .before .before .before .before .before .before .before .before .if1 .left)), (refl, inl refl))
+returns-2 c =
+    let d = c .before .before in
+    let t = d .before .before in
+    let p = t .before .before .before .before .pre in
+    (λ G ta fl ls a. rw (d .enter .ensures) (follow-enter a _ _ ls (p .1) (p .3) (λ e. t .if1 .left (t .before .read .ensures ∙ e))), refl)
 
 pub follow-spec : {M : Type 1} → statement M
 follow-spec = tie.close (tie.spec
-    (λ c. search needs) (λ c. search needs) (λ c κs. search needs) (λ c. search needs) (λ c. search needs) returns (λ c. search needs)
-    (λ c κs. search needs) (λ c. search needs) (λ c. search needs) (λ c. search needs) returns-2)
+    (λ c κs. search needs) (λ c. search needs) (λ c κs. search needs) (λ c. search needs) returns (λ c. search needs) (λ c κs. search needs) (λ c. search needs) returns-2)

@@ -1,0 +1,205 @@
+-- Each way through a transition of a loop search: what it leaves is what the rule says. Assumes nothing.
+use mathlib.Core.Path.{_≡_, refl, sym, ap, _∙_, subst}
+use mathlib.Core.Logic.{_≢_}
+use mathlib.Core.Bool.{Bool, true, false, _||_}
+use mathlib.Core.List.{List, [], _∷_}
+use Prim.Native.Nat.{ℕ, zero, suc, _+_, _-_, _*_, _≤_, _<_, min}
+use native.Mathlib.Numerals.{add-one}
+use native.Mathlib.Omega.{arith}
+use lib.ListN.{length, getD, set, drop, drop-of-length-le}
+use lib.Seq.{drop-cons}
+use Rattle.graph.specs.Members.{put, numbers, raised}
+use Rattle.graph.specs.Laws.Members.{ltb-yes, ltb-no}
+use Rattle.graph.specs.Graph.{Graph}
+use Rattle.graph.specs.Transition.{State, led, searchedTo, backOpen, backClosed, nextOpen, discover, close, transition}
+use Rattle.graph.specs.Laws.Transitions.{state-eq, transition-seek, transition-skip, transition-discover, transition-cross, transition-tie, transition-leave-open, transition-collect, transition-close, transition-complete}
+use Rattle.graph.specs.declared.Place.{Place}
+use Rattle.graph.specs.declared.Place.the-variants.{Starting, Searching, Closing, Between}
+use Rattle.marks.specs.Memory.{view, markAt, markWords, fill, flaggedAt, AtSeek, AtLoopLink, AtLoopLast}
+use Rattle.marks.proofs.Slices.{mark-set, mark-keep, raised-flagged, length-fill, fill-at, fill-before, fill-behind}
+
+-- ---- places
+
+module _ {n : ℕ} (G : Graph) (s : n ≡ G .size) where
+  pub searched-more : {k : ℕ} → k < n → Starting k ≡ searchedTo G k
+  unfolding searchedTo
+  searched-more {k} h = let q : k < G .size = omega arith in rw (ltb-yes q) refl
+
+  pub searched-over : {k : ℕ} → n ≤ k → Between 0 ≡ searchedTo G k
+  unfolding searchedTo
+  searched-over {k} h = let q : G .size ≤ k = omega arith in rw (ltb-no q) refl
+
+-- the search after k
+pub next-search : (G : Graph) (k : ℕ) {p : Place} → p ≡ searchedTo G (k + 1) → p ≡ searchedTo G (suc k)
+next-search G k e = e ∙ ap (searchedTo G) (add-one k)
+
+module _ (G : Graph) (k : ℕ) where
+  pub open-none : {p : Place} (f top high low : ℕ) → f ≡ 0 → p ≡ searchedTo G (k + 1) → p ≡ backOpen G k f top high low
+  open-none f top high low e q = rw e (next-search G k q)
+
+  pub open-some : (f top high low : ℕ) → f ≢ 0 → Searching k (f - 1) top high low ≡ backOpen G k f top high low
+  open-some zero top high low e = absurd (e refl)
+  open-some (suc p) top high low e = ap (λ (u : ℕ). Searching k u top high low) (let q : suc p - 1 ≡ p = omega arith in q)
+
+  pub closed-none : {p : Place} (f b high low : ℕ) → f ≡ 0 → p ≡ searchedTo G (k + 1) → p ≡ backClosed G k f b high low
+  closed-none f b high low e q = rw e (next-search G k q)
+
+  pub closed-last : {p : Place} (f b high low : ℕ) → f ≢ 0 → b ≡ 0 → p ≡ searchedTo G (k + 1) → p ≡ backClosed G k f b high low
+  closed-last zero b high low n e q = absurd (n refl)
+  closed-last (suc f) b high low n e q = rw e (next-search G k q)
+
+  pub closed-some : (f b high low : ℕ) → f ≢ 0 → b ≢ 0 → Searching k (f - 1) (b - 1) high low ≡ backClosed G k f b high low
+  closed-some zero b high low n e = absurd (n refl)
+  closed-some (suc f) zero high low n e = absurd (e refl)
+  closed-some (suc f) (suc b) high low n e =
+      ap (λ (u : ℕ). Searching k u (suc b - 1) high low) (let q : suc f - 1 ≡ f = omega arith in q)
+      ∙ ap (λ (u : ℕ). Searching k f u high low) (let q : suc b - 1 ≡ b = omega arith in q)
+
+  pub next-none : {p : Place} (x b high : ℕ) → b ≡ 0 → p ≡ searchedTo G (k + 1) → p ≡ nextOpen G k x b high
+  next-none x b high e q = rw e (next-search G k q)
+
+  pub next-some : (x b high : ℕ) → b ≢ 0 → Closing k x (b - 1) high ≡ nextOpen G k x b high
+  next-some x zero high e = absurd (e refl)
+  next-some x (suc b) high e = ap (λ (u : ℕ). Closing k x u high) (let q : suc b - 1 ≡ b = omega arith in q)
+
+-- ---- marks
+
+-- a node is entered, and open
+module _ (ma : List ℕ) (y p h b low : ℕ) (yl : y < 2048) (r : markWords ≤ length ma) where
+  abbrev first : List ℕ
+  first = fill ma y 0 (1 ∷ p ∷ 0 ∷ [])
+
+  room : markWords ≤ length (fill ma y 0 (1 ∷ p ∷ 0 ∷ []))
+  room = rw (length-fill ma y 0 (1 ∷ p ∷ 0 ∷ [])) r
+
+  pub discovered : (k len high : ℕ) (ta fl ls : List ℕ) → h ≡ suc high →
+      view (Searching k y y h h) len ta (fill (fill ma y 0 (1 ∷ p ∷ 0 ∷ [])) y 3 (h ∷ b ∷ low ∷ [])) fl ls ≡
+      discover (view (Searching k y y h h) len ta ma fl ls) k y p b high low
+  unfolding view
+  discovered k len high ta fl ls e =
+      state-eq (ap (λ (u : ℕ). Searching k y y u u) e) refl
+      (fill-before (h ∷ b ∷ low ∷ []) (fill ma y 0 (1 ∷ p ∷ 0 ∷ [])) y 3 0 (omega arith) (omega arith) ∙ fill-at (1 ∷ p ∷ 0 ∷ []) ma y 0 0 (omega arith) yl r (omega arith))
+      (fill-before (h ∷ b ∷ low ∷ []) (fill ma y 0 (1 ∷ p ∷ 0 ∷ [])) y 3 1 (omega arith) (omega arith) ∙ fill-at (1 ∷ p ∷ 0 ∷ []) ma y 0 1 (omega arith) yl r (omega arith))
+      (fill-before (h ∷ b ∷ low ∷ []) (fill ma y 0 (1 ∷ p ∷ 0 ∷ [])) y 3 2 (omega arith) (omega arith) ∙ fill-at (1 ∷ p ∷ 0 ∷ []) ma y 0 2 (omega arith) yl r (omega arith))
+      refl
+      (fill-at (h ∷ b ∷ low ∷ []) (fill ma y 0 (1 ∷ p ∷ 0 ∷ [])) y 3 0 (omega arith) yl room (omega arith) ∙ ap (λ (f : ℕ → ℕ). put f y h) (fill-behind (1 ∷ p ∷ 0 ∷ []) ma y 0 3 (omega arith) (omega arith)) ∙ ap (put (markAt ma 3) y) e)
+      (fill-at (h ∷ b ∷ low ∷ []) (fill ma y 0 (1 ∷ p ∷ 0 ∷ [])) y 3 1 (omega arith) yl room (omega arith) ∙ ap (λ (f : ℕ → ℕ). put f y b) (fill-behind (1 ∷ p ∷ 0 ∷ []) ma y 0 4 (omega arith) (omega arith)))
+      (fill-at (h ∷ b ∷ low ∷ []) (fill ma y 0 (1 ∷ p ∷ 0 ∷ [])) y 3 2 (omega arith) yl room (omega arith) ∙ ap (λ (f : ℕ → ℕ). put f y low) (fill-behind (1 ∷ p ∷ 0 ∷ []) ma y 0 5 (omega arith) (omega arith)))
+      refl
+
+-- a node is closed
+pub closed : (ma : List ℕ) (x : ℕ) → x < 2048 → markWords ≤ length ma → (q p : Place) (len : ℕ) (ta fl ls : List ℕ) →
+    view p len ta (set ma (x * 6 + 3) 0) fl ls ≡ close (view q len ta ma fl ls) x p
+unfolding view
+closed ma x h r q p len ta fl ls =
+    state-eq refl refl
+    (mark-keep ma x 3 0 0 (omega arith) (omega arith) (λ e. omega arith))
+    (mark-keep ma x 3 1 0 (omega arith) (omega arith) (λ e. omega arith))
+    (mark-keep ma x 3 2 0 (omega arith) (omega arith) (λ e. omega arith))
+    refl
+    (mark-set ma x 3 0 (omega arith) h r)
+    (mark-keep ma x 3 4 0 (omega arith) (omega arith) (λ e. omega arith))
+    (mark-keep ma x 3 5 0 (omega arith) (omega arith) (λ e. omega arith))
+    refl
+
+-- ---- a loop search begins
+
+module _ {G : Graph} {k n y : ℕ} (a : AtSeek G k n y) (len : ℕ) (ta ma fl ls : List ℕ) where
+  pub seek-skip : {p : Place} → p ≡ searchedTo G (k + 1) → markAt ma 0 y ≡ 1 → view p len ta ma fl ls ≡ transition G (view (Starting k) len ta ma fl ls)
+  unfolding view
+  seek-skip q e =
+      sym
+      (transition-skip G (view (Starting k) len ta ma fl ls) k refl (ap (markAt ma 0) (sym (a .node-is)) ∙ e)
+      ∙ state-eq (sym (next-search G k q)) refl refl refl refl refl refl refl refl refl)
+
+  pub seek-enter : y < 2048 → markWords ≤ length ma → markAt ma 0 y ≢ 1 →
+      view (Searching k y y 1 1) len ta (fill (fill ma y 0 (1 ∷ 0 ∷ 0 ∷ [])) y 3 (1 ∷ 0 ∷ 0 ∷ [])) fl ls ≡ transition G (view (Starting k) len ta ma fl ls)
+  unfolding view
+  seek-enter b r e =
+      discovered ma y 0 1 0 0 b r k len 0 ta fl ls refl
+      ∙ ap (λ (u : ℕ). discover (view (Starting k) len ta ma fl ls) k u 0 0 0 0) (a .node-is)
+      ∙ sym (transition-seek G (view (Starting k) len ta ma fl ls) k refl (λ q. e (ap (markAt ma 0) (a .node-is) ∙ q)))
+
+-- ---- a link is followed
+
+module _ {G : Graph} {x y i : ℕ} {refers : Bool} {ta ma : List ℕ} (a : AtLoopLink G x y i refers ta ma) (k top high low len : ℕ) (fl ls : List ℕ) where
+  left : drop (markAt ma 2 x) (led G (numbers ta) x) ≡ y ∷ drop (suc i) (led G (numbers ta) x)
+  left =
+      ap (λ (u : ℕ). drop u (led G (numbers ta) x)) (sym (a .index-is))
+      ∙ drop-cons (led G (numbers ta) x) i 0 (a .more)
+      ∙ ap (λ (u : ℕ). u ∷ drop (suc i) (led G (numbers ta) x)) (sym (a .next-is))
+
+  module _ (xl : x < 2048) (r : markWords ≤ length ma) where
+    followed : markAt (set ma (x * 6 + 2) (i + 1)) 2 ≡ put (markAt ma 2) x (suc (markAt ma 2 x))
+    followed = mark-set ma x 2 (i + 1) (omega arith) xl r ∙ ap (put (markAt ma 2) x) (add-one i ∙ ap suc (a .index-is))
+
+    kept : (j : ℕ) → j < 6 → 2 ≢ j → markAt (set ma (x * 6 + 2) (i + 1)) j ≡ markAt ma j
+    kept j h n = mark-keep ma x 2 j (i + 1) (omega arith) h n
+
+    pub explore-cross : {h : ℕ} → markAt ma 0 y ≡ 1 → h ≡ markAt ma 3 y → h ≡ 0 →
+        view (Searching k x top high low) len ta (set ma (x * 6 + 2) (i + 1)) fl ls ≡ transition G (view (Searching k x top high low) len ta ma fl ls)
+    unfolding view
+    explore-cross e he h =
+        state-eq refl refl (kept 0 (omega arith) (λ q. omega arith)) (kept 1 (omega arith) (λ q. omega arith)) followed refl (kept 3 (omega arith) (λ q. omega arith))
+        (kept 4 (omega arith) (λ q. omega arith)) (kept 5 (omega arith) (λ q. omega arith)) refl
+        ∙ sym (transition-cross G (view (Searching k x top high low) len ta ma fl ls) k x top high low refl left e (sym he ∙ h))
+
+    pub explore-tie : x < length fl → {h l : ℕ} → markAt ma 0 y ≡ 1 → h ≡ markAt ma 3 y → h ≢ 0 → l ≡ min low h →
+        view (Searching k x top high l) len ta (set ma (x * 6 + 2) (i + 1)) (flaggedAt fl x refers) ls ≡ transition G (view (Searching k x top high low) len ta ma fl ls)
+    unfolding view
+    explore-tie fh e he n q =
+        state-eq (ap (Searching k x top high) (q ∙ ap (min low) he)) refl (kept 0 (omega arith) (λ q. omega arith)) (kept 1 (omega arith) (λ q. omega arith)) followed
+        (raised-flagged fl x refers fh ∙ ap (λ (u : Bool). put (raised fl) x (raised fl x || u)) (a .refers-is))
+        (kept 3 (omega arith) (λ q. omega arith)) (kept 4 (omega arith) (λ q. omega arith)) (kept 5 (omega arith) (λ q. omega arith)) refl
+        ∙ sym (transition-tie G (view (Searching k x top high low) len ta ma fl ls) k x top high low refl left e (λ z. n (he ∙ z)))
+
+  pub explore-enter : y < 2048 → markWords ≤ length ma → markAt ma 0 y ≢ 1 →
+      view (Searching k y y (high + 1) (high + 1)) len ta (fill (fill ma y 0 (1 ∷ (x + 1) ∷ 0 ∷ [])) y 3 ((high + 1) ∷ (top + 1) ∷ low ∷ [])) fl ls ≡
+      transition G (view (Searching k x top high low) len ta ma fl ls)
+  unfolding view
+  explore-enter b r e =
+      discovered ma y (x + 1) (high + 1) (top + 1) low b r k len high ta fl ls (add-one high)
+      ∙ ap (λ (u : ℕ). discover (view (Searching k x top high low) len ta ma fl ls) k y u (top + 1) high low) (add-one x)
+      ∙ ap (λ (u : ℕ). discover (view (Searching k x top high low) len ta ma fl ls) k y (suc x) u high low) (add-one top)
+      ∙ sym (transition-discover G (view (Searching k x top high low) len ta ma fl ls) k x top high low refl left e)
+
+-- ---- a node is left
+
+module _ {G : Graph} {n x : ℕ} {ta ma : List ℕ} (a : AtLoopLast G n x ta ma) (k top high low len : ℕ) (fl ls : List ℕ) where
+  none : drop (markAt ma 2 x) (led G (numbers ta) x) ≡ []
+  none = drop-of-length-le (led G (numbers ta) x) (a .over)
+
+  pub retreat-open : {p : Place} {h f b l : ℕ} → h ≡ markAt ma 3 x → low < h → f ≡ markAt ma 1 x → b ≡ markAt ma 5 x → l ≡ min low b → p ≡ backOpen G k f top high l →
+      view p len ta ma fl ls ≡ transition G (view (Searching k x top high low) len ta ma fl ls)
+  unfolding view
+  retreat-open {l = l} he lt fe be le q =
+      let q′ : l ≡ min low (markAt ma 5 x) = le ∙ ap (min low) be in
+      state-eq (q ∙ ap (λ (u : ℕ). backOpen G k u top high l) fe ∙ ap (backOpen G k (markAt ma 1 x) top high) q′) refl refl refl refl refl refl refl refl refl
+      ∙ sym (transition-leave-open G (view (Searching k x top high low) len ta ma fl ls) k x top high low refl none (let g : low < markAt ma 3 x = omega arith in g))
+
+  pub retreat-close : {h : ℕ} → h ≡ markAt ma 3 x → h ≤ low → view (Closing k x top high) len ta ma fl ls ≡ transition G (view (Searching k x top high low) len ta ma fl ls)
+  unfolding view
+  retreat-close he le =
+      sym (transition-collect G (view (Searching k x top high low) len ta ma fl ls) k x top high low refl none (let g : markAt ma 3 x ≤ low = omega arith in g))
+
+-- ---- a node is closed
+
+module _ (G : Graph) (k x top high len : ℕ) (ta ma fl ls : List ℕ) (r : markWords ≤ length ma) where
+  pub close-last : {p : Place} {f b l rest : ℕ} → x < 2048 → top ≡ x → rest ≡ high - 1 → b ≡ markAt ma 4 top → f ≡ markAt ma 1 x → l ≡ markAt ma 5 x → p ≡ backClosed G k f b rest l →
+      view p len ta (set ma (x * 6 + 3) 0) fl ls ≡ transition G (view (Closing k x top high) len ta ma fl ls)
+  unfolding view
+  close-last {p} {f} {b} {l} {rest} h e re be fe le q =
+      closed ma x h r (Closing k x top high) p len ta fl ls
+      ∙ ap (close (view (Closing k x top high) len ta ma fl ls) x)
+      (q ∙ ap (λ (u : ℕ). backClosed G k u b rest l) fe ∙ ap (λ (u : ℕ). backClosed G k (markAt ma 1 x) u rest l) (be ∙ ap (markAt ma 4) e)
+      ∙ ap (λ (u : ℕ). backClosed G k (markAt ma 1 x) (markAt ma 4 x) u l) re ∙ ap (backClosed G k (markAt ma 1 x) (markAt ma 4 x) (high - 1)) le)
+      ∙ sym (transition-complete G (view (Closing k x top high) len ta ma fl ls) k x top high refl e)
+
+  pub close-newer : {p : Place} {b rest : ℕ} → top < 2048 → top ≢ x → rest ≡ high - 1 → b ≡ markAt ma 4 top → p ≡ nextOpen G k x b rest →
+      view p len ta (set ma (top * 6 + 3) 0) fl ls ≡ transition G (view (Closing k x top high) len ta ma fl ls)
+  unfolding view
+  close-newer {p} {b} {rest} h e re be q =
+      closed ma top h r (Closing k x top high) p len ta fl ls
+      ∙ ap (close (view (Closing k x top high) len ta ma fl ls) top)
+      (q ∙ ap (λ (u : ℕ). nextOpen G k x u rest) be ∙ ap (nextOpen G k x (markAt ma 4 top)) re)
+      ∙ sym (transition-close G (view (Closing k x top high) len ta ma fl ls) k x top high refl e)

@@ -1,0 +1,13 @@
+use Rattle.marks.proofs.Loops.{open-none, open-some}
+use borrow.Author.Needs.{needs}
+use Rattle.marks.proofs.components.back_open.Statement.{statement}
+use Rattle.marks.proofs.components.back_open.Tie as tie
+
+returns : tie.Need-returns
+returns c = λ G e. open-none G _ _ _ _ _ (c .before .if1 .taken) (c .searched-to .ensures G e)
+
+returns-2 : tie.Need-returns-2
+returns-2 c = λ G e. open-some G _ _ _ _ _ (c .if1 .left)
+
+pub back-open-spec : {M : Type 1} → statement M
+back-open-spec = tie.close (tie.spec (λ c. search needs) (λ c κs. search needs) returns (λ c. search needs) returns-2)
