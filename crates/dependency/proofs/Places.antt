@@ -9,7 +9,7 @@ use lib.ListN.{length, getD}
 use lib.Dec.{ltb}
 use Rattle.graph.specs.Laws.Members.{ltb-yes, ltb-no, eqb-yes, eqb-no}
 use Rattle.graph.specs.declared.Place.{Place}
-use Rattle.graph.specs.declared.Place.the-variants.{Resolving, Between, Inside}
+use Rattle.graph.specs.declared.Place.the-variants.{Resolving, Starting, Searching, Closing, Between, Inside}
 use Rattle.ad.specs.Stored.{nodeCount}
 use Rattle.links.specs.Pair.{Stands}
 use Rattle.dependency.specs.Traversal.{PlaceFits, lookupOf, foundAt}
@@ -42,12 +42,7 @@ place-some h = rw (ltb-yes h) refl
 pub place-none : {n : ℕ} → n ≤ 0 → Between 0 ≡ cond (ltb 0 n) (Resolving 0) (Between 0)
 place-none h = rw (ltb-no h) refl
 
-module _ (v w : List ℕ) (n m len : ℕ) (ls : List ℕ) (pl : Place) (f : PlaceFits v w n m len ls pl) where
-  pub fits-resolving : {i : ℕ} → pl ≡ Resolving i → i < nodeCount v + nodeCount w
-  fits-resolving e = subst (λ (u : Place). PlaceFits v w n m len ls u) e f
-
-  pub fits-between : {k : ℕ} → pl ≡ Between k → k < n
-  fits-between e = subst (λ (u : Place). PlaceFits v w n m len ls u) e f
-
-  pub fits-inside : {k x : ℕ} → pl ≡ Inside k x → Stands v w x × (k < n) × (m ≤ k → len < length ls)
-  fits-inside e = subst (λ (u : Place). PlaceFits v w n m len ls u) e f
+module _ (v w : List ℕ) (n len : ℕ) (ls : List ℕ) (pl : Place) (f : PlaceFits v w n len ls pl) where
+  -- the facts of a place that is known
+  pub fits-at : {q : Place} → pl ≡ q → PlaceFits v w n len ls q
+  fits-at e = subst (λ (u : Place). PlaceFits v w n len ls u) e f

@@ -1,31 +1,34 @@
 -- The facts by which a transition of two ads goes. Assumes nothing.
 use mathlib.Core.Path.{_≡_, refl, sym, ap, _∙_, subst}
-use mathlib.Core.Logic.{_≢_}
-use mathlib.Core.Bool.{Bool, true, false, cond, _&&_}
+use mathlib.Core.Bool.{Bool, cond}
 use mathlib.Core.List.{List, []}
-use Prim.Native.Nat.{ℕ, zero, suc, _+_, _-_, _*_, _≤_, _<_}
+use Prim.Native.Nat.{ℕ, _+_, _-_, _≤_, _<_}
 use native.Mathlib.Omega.{arith}
 use lib.ListN.{length, getD}
-use lib.Dec.{eqb, ltb}
-use Rattle.graph.specs.Graph.{Graph, Node, Sound}
-use Rattle.graph.specs.Transition.{flags, stampOf, searches, start, led, goes, marked}
-use Rattle.ad.specs.Stored.{nodeCount, definitionCount}
+use lib.Dec.{ltb}
+use Rattle.graph.specs.Graph.{Node}
+use Rattle.graph.specs.Transition.{searches, start, led, needed, marked}
+use Rattle.ad.specs.Stored.{nodeCount}
 use Rattle.links.specs.Pair.{pairGraph, Formed, Measured, Stands}
 use Rattle.links.specs.Laws.Soundness.{pair-sound}
 use Rattle.graph.specs.Members.{numbers, raised}
-use Rattle.marks.specs.Memory.{AtNode, AtStart, AtLink, AtLast, Roomy, Grows}
-use Rattle.links.specs.Laws.Numbering.{pair-size, stands-small, definitions-fit, sources-are, stamp-is, goes-in, goes-next}
+use Rattle.marks.specs.Memory.{markAt, AtNode, AtSeek, AtLoopLink, AtLoopLast, AtStart, AtLink, AtLast, Grows}
+use Rattle.links.specs.Laws.Numbering.{pair-size, stands-small, nodes-fit, needed-in, needed-next}
 
 pub kept-grows : {len len′ : ℕ} (ls : List ℕ) → len′ ≡ len → Grows len len′ ls ls
 kept-grows ls e = record { longer = omega arith; fits = λ h. omega arith; behind = λ i h. refl }
 
 -- a node's place in a slice of marks
-pub stands-in : (v w : List ℕ) (x : ℕ) (l : List ℕ) → Stands v w x → 2048 ≤ length l → x < length l
-stands-in v w x l s h = let a = stands-small v w x s in omega arith
+pub stands-in : (v w : List ℕ) (x : ℕ) {n : ℕ} → Stands v w x → 2048 ≤ n → x < n
+stands-in v w x s h = let a = stands-small v w x s in omega arith
 
 module _ {v w : List ℕ} {n d n′ d′ : ℕ} (p : Measured v n d) (q : Measured w n′ d′) where
-  pub searches-few : {k r : ℕ} → k < d + d′ + r → r ≤ 4 → (d + d′ < 4096) × (k < 4096)
-  searches-few h e = let a = definitions-fit p in let b = definitions-fit q in (omega arith, omega arith)
+  -- the numbers of the nodes
+  pub nodes-few : nodeCount v + nodeCount w ≤ 2048
+  nodes-few = let a = nodes-fit p in let b = nodes-fit q in let e = p .nodes-are in let f = q .nodes-are in omega arith
+
+  pub size-is : (b c : List ℕ) → n + n′ ≡ pairGraph v b w c .size
+  size-is b c = (let a = p .nodes-are in let g = q .nodes-are in let z : n + n′ ≡ nodeCount v + nodeCount w = omega arith in z) ∙ sym (pair-size v b w c)
 
   nth-is : (b c : List ℕ) (i : ℕ) {x : ℕ} → x ≡ cond (ltb i n) i (1024 + (i - n)) → x ≡ pairGraph v b w c .nth i
   unfolding pairGraph
@@ -38,44 +41,33 @@ module _ {v w : List ℕ} {n d n′ d′ : ℕ} (p : Measured v n d) (q : Measur
 
   pub step-node : (b c : List ℕ) {i x found : ℕ} → x ≡ cond (ltb i n) i (1024 + (i - n)) →
       found ≡ cond (pairGraph v b w c .ref x) (marked (pairGraph v b w c .links x)) 0 → AtNode (pairGraph v b w c) i (n + n′) x found
-  step-node b c {i} e f = record {
-    size-is = (let a = p .nodes-are in let g = q .nodes-are in let z : n + n′ ≡ nodeCount v + nodeCount w = omega arith in z) ∙ sym (pair-size v b w c);
-    node-is = nth-is b c i e;
-    found-is = f;
-  }
+  step-node b c {i} e f = record { size-is = size-is b c; node-is = nth-is b c i e; found-is = f }
 
-  searches-are : (b c roots : List ℕ) {k : ℕ} → roots ≡ pairGraph v b w c .roots → k < d + d′ + length roots → k < searches (pairGraph v b w c)
-  unfolding searches
-  searches-are b c roots e h = let a = sources-are v b w c p q 0 in let g = ap length e in omega arith
+  pub step-seek : (b c : List ℕ) {k y : ℕ} → y ≡ cond (ltb k n) k (1024 + (k - n)) → AtSeek (pairGraph v b w c) k (n + n′) y
+  step-seek b c {k} e = record { size-is = size-is b c; node-is = nth-is b c k e }
 
-  pub step-start : (b c roots : List ℕ) {k y t : ℕ} → roots ≡ pairGraph v b w c .roots → k < d + d′ + length roots → y ≡ start (pairGraph v b w c) k →
-      t ≡ cond (ltb k (d + d′)) (k + 1) (d + d′ + 1) → AtStart (pairGraph v b w c) k y t
-  step-start b c roots {k} e h s t = record {
-    search-in = searches-are b c roots e h;
-    start-is = s;
-    stamp-is = stamp-is (pairGraph v b w c) (d + d′) k 0 [] [] (sources-are v b w c p q 0) t;
-  }
+  pub step-loop-last : (b c : List ℕ) {x dd i : ℕ} {ta ma : List ℕ} → dd ≡ length (led (pairGraph v b w c) (numbers ta) x) → i ≡ markAt ma 2 x → dd ≤ i →
+      AtLoopLast (pairGraph v b w c) (n + n′) x ta ma
+  step-loop-last b c de ie h = record { size-is = size-is b c; over = omega arith }
 
-  module _ (b c : List ℕ) (k x i dd : ℕ) (ta fo fl : List ℕ) (de : dd ≡ length (goes (pairGraph v b w c) k (numbers ta) (raised fl) x)) (ie : i ≡ getD fo x 0) where
-    pub step-link : {y t : ℕ} {closes : Bool} → i < dd → y ≡ getD (led (pairGraph v b w c) (numbers ta) x) i 0 →
-        t ≡ cond (ltb k (d + d′)) (k + 1) (d + d′ + 1) → closes ≡ (flags (pairGraph v b w c) k && (pairGraph v b w c .ref x && eqb y (start (pairGraph v b w c) k))) →
-        AtLink (pairGraph v b w c) k x y t i closes ta fo fl
-    step-link {y} h ye te ce =
-        let g : i < length (goes (pairGraph v b w c) k (numbers ta) (raised fl) x) = omega arith in
-        record {
-          stamp-is = stamp-is (pairGraph v b w c) (d + d′) k 0 [] [] (sources-are v b w c p q 0) te;
-          index-is = ie;
-          more = g;
-          next-is = goes-next (pairGraph v b w c) k x i y ta fl g ye;
-          closes-is = ce;
-        }
+module _ (v b w c : List ℕ) where
+  pub step-loop-link : {x y i dd : ℕ} {refers : Bool} {ta ma : List ℕ} → dd ≡ length (led (pairGraph v b w c) (numbers ta) x) → i ≡ markAt ma 2 x → i < dd →
+      y ≡ getD (led (pairGraph v b w c) (numbers ta) x) i 0 → refers ≡ pairGraph v b w c .ref x → AtLoopLink (pairGraph v b w c) x y i refers ta ma
+  step-loop-link de ie h ye re = record { index-is = ie; more = omega arith; next-is = ye; refers-is = re }
 
-    pub link-in : i < dd → i < length (led (pairGraph v b w c) (numbers ta) x)
-    link-in h = goes-in (pairGraph v b w c) k x i ta fl (let g : i < length (goes (pairGraph v b w c) k (numbers ta) (raised fl) x) = omega arith in g)
+  pub step-start : {roots : List ℕ} (k : ℕ) → roots ≡ pairGraph v b w c .roots → k < length roots → AtStart (pairGraph v b w c) k (getD roots k 0)
+  unfolding searches start
+  step-start k e h = record { search-in = subst (λ (l : List ℕ). k < length l) e h; start-is = ap (λ (l : List ℕ). getD l k 0) e }
 
-    pub step-last : {f : ℕ} {fr : List ℕ} → dd ≤ i → f ≡ getD fr x 0 → AtLast (pairGraph v b w c) (d + d′) k x f ta fr fo fl
-    step-last h fe = record {
-      sources-are = sources-are v b w c p q 0;
-      over = omega arith;
-      from-is = fe;
-    }
+  module _ (x i dd : ℕ) (ta ma fl : List ℕ) (de : dd ≡ length (needed (pairGraph v b w c) (numbers ta) (raised fl) x)) (ie : i ≡ markAt ma 2 x) where
+    within : i < dd → i < length (needed (pairGraph v b w c) (numbers ta) (raised fl) x)
+    within h = omega arith
+
+    pub need-in : i < dd → i < length (led (pairGraph v b w c) (numbers ta) x)
+    need-in h = needed-in (pairGraph v b w c) x i ta fl (within h)
+
+    pub step-link : {y : ℕ} → i < dd → y ≡ getD (led (pairGraph v b w c) (numbers ta) x) i 0 → AtLink (pairGraph v b w c) x y i ta ma fl
+    step-link {y} h ye = record { index-is = ie; more = within h; next-is = needed-next (pairGraph v b w c) x i y ta fl (within h) ye }
+
+    pub step-last : {f : ℕ} → dd ≤ i → f ≡ markAt ma 1 x → AtLast (pairGraph v b w c) x f ta ma fl
+    step-last h fe = record { over = omega arith; from-is = fe }

@@ -9,27 +9,35 @@ use Rattle.graph.specs.Members.{raised}
 use Rattle.graph.specs.Graph.{Graph, Flags, IsList}
 use Rattle.graph.specs.Transition.{searches, marked, transitions, first, Ended}
 use Rattle.graph.specs.declared.Place.{Place}
-use Rattle.graph.specs.declared.Place.the-variants.{Resolving, Between, Inside}
+use Rattle.graph.specs.declared.Place.the-variants.{Resolving, Starting, Searching, Closing, Between, Inside}
 use Rattle.ad.specs.Stored.{nodeCount}
 use Rattle.links.specs.Pair.{Formed, Stands}
-use Rattle.marks.specs.Memory.{view, Flagged, Roomy, Cleared}
+use Rattle.marks.specs.Memory.{view, marksRoom, Clear, Flagged}
 use Rattle.dependency.specs.declared.Lookup.{Lookup}
 use Rattle.dependency.specs.declared.Lookup.the-variants.{Found, Absent, Circular}
 
--- 'clear marks and an empty list', for two well-formed ads
-pub record Ready (v w target stamp from followed flag list : List ℕ) : Type 0 where
+-- 'clear marks and an empty list', for two well-formed ads; the other marks are the traversal's own
+pub record Ready (v w target flag list : List ℕ) : Type 0 where
   pub first-formed : Formed v
   pub second-formed : Formed w
-  pub roomy : Roomy target stamp from followed flag list
-  pub cleared : Cleared target stamp from followed flag list
+  pub target-room : marksRoom ≤ length target
+  pub flag-room : marksRoom ≤ length flag
+  pub list-room : marksRoom ≤ length list
+  pub target-clear : Clear target
+  pub flag-clear : Clear flag
+  pub list-clear : Clear list
 
 -- What the traversal of a graph comes to: 'its end is what these moves, exactly as many as it counts, make one after another of
 -- its first place, clear marks and an empty list. From clear marks it ends with exactly the circular references and the list, its
 -- result carrying a count of at most sixteen times the square of the nodes of both ads'
-pub record Traversed (G : Graph) (count len : ℕ) (target stamp from followed flag list : List ℕ) : Type 0 where
-  pub ends : view (Between (searches G)) len target stamp from followed flag list ≡ transitions G count (first G)
+pub record Traversed (G : Graph) (count len : ℕ) (target flag list : List ℕ) : Type 0 where
+  -- the marks that no caller sees
+  pub marks : List ℕ
+  pub ends : view (Between (searches G)) len target marks flag list ≡ transitions G count (first G)
   -- it was not over at any smaller count
   pub exact : (j : ℕ) → j < count → ¬ (Ended G (transitions G j (first G)))
+  -- sixteen times the nodes are enough, loops included
+  pub linear : count ≤ 16 * G .size
   pub small : count ≤ 16 * (G .size * G .size)
   -- each reference's target is recorded: one more than its definition's root, 0 where there is none
   pub resolved : (x : ℕ) → G .ref x ≡ true → getD target x 0 ≡ marked (G .links x)
@@ -42,22 +50,31 @@ pub record Traversed (G : Graph) (count len : ℕ) (target stamp from followed f
   -- the whole list, each entry one more than its node, then zeros
   pub written : list ≡ map suc order ++ replicate (length list - length order) 0
 
--- What one transition of a pair asks of its place, and that the list is not full where an entry may be written. It asks nothing of
--- what the marks hold: 'each with a contract of its own over any marks, right or wrong'
-abbrev pub PlaceFits : (v w : List ℕ) → (searches m len : ℕ) → (list : List ℕ) → Place → Type 0
-PlaceFits v w searches m len list (Resolving i) = i < nodeCount v + nodeCount w
-PlaceFits v w searches m len list (Between k) = k < searches
-PlaceFits v w searches m len list (Inside k x) = Stands v w x × (k < searches) × (m ≤ k → len < length list)
+-- What one transition of a pair asks of its place, of n list searches in all, and that the list is not full where an entry may be
+-- written. It asks nothing of what the marks hold: 'each with a contract of its own over any marks, right or wrong'
+abbrev pub PlaceFits : (v w : List ℕ) → (n len : ℕ) → (list : List ℕ) → Place → Type 0
+PlaceFits v w n len list (Resolving i) = i < nodeCount v + nodeCount w
+PlaceFits v w n len list (Starting k) = k < nodeCount v + nodeCount w
+PlaceFits v w n len list (Searching k x top high low) = Stands v w x × Stands v w top × (k < nodeCount v + nodeCount w) × (high < 65535) × (low < 65536)
+PlaceFits v w n len list (Closing k x top high) = Stands v w x × Stands v w top × (k < nodeCount v + nodeCount w)
+PlaceFits v w n len list (Between k) = k < n
+PlaceFits v w n len list (Inside k x) = Stands v w x × (k < n) × (len < length list)
 
 -- what one transition does to the flags: 'only that node's marks'
 abbrev pub FlaggedFrom : Place → List ℕ → List ℕ → Type 0
 FlaggedFrom (Resolving i) before after = after ≡ before
+FlaggedFrom (Starting k) before after = after ≡ before
+FlaggedFrom (Searching k x top high low) before after = Flagged x before after
+FlaggedFrom (Closing k x top high) before after = after ≡ before
 FlaggedFrom (Between k) before after = after ≡ before
-FlaggedFrom (Inside k x) before after = Flagged x before after
+FlaggedFrom (Inside k x) before after = after ≡ before
 
--- whether there is no search left, of n: for 'its end is what these moves .. make'
+-- whether there is no list search left, of n
 abbrev pub endedAt : Place → ℕ → Bool
 endedAt (Resolving i) n = false
+endedAt (Starting k) n = false
+endedAt (Searching k x top high low) n = false
+endedAt (Closing k x top high) n = false
 endedAt (Between k) n = leb n k
 endedAt (Inside k x) n = false
 

@@ -7,10 +7,11 @@ use marks::Position;
 ghost use mathlib.Core.Path.{_≡_};
 ghost use mathlib.Core.Bool.{cond};
 ghost use Prim.Native.Nat.{_+_, _<_, _≤_};
-ghost use lib.ListN.{length};
+ghost use lib.ListN.{length, replicate};
 ghost use lib.Dec.{ltb};
 ghost use Rattle.graph.specs.declared.Place.the-variants.{Resolving, Between};
 ghost use Rattle.links.specs.Pair.{pairGraph, Measured};
+ghost use Rattle.marks.specs.Memory.{markWords};
 ghost use Rattle.dependency.specs.Traversal.{lookupOf, endedAt, Ready, Traversed};
 
 // What is found of a reference: its definition's root, by number; no definition; or a cycle back to the reference itself.
@@ -57,12 +58,15 @@ fn first_position(n: usize) -> Position
     }
 }
 
-// Whether no search is left of n.
+// Whether no list search is left of n.
 fn ended(place: Place, n: usize) -> bool
     ensures { λ r. ⌜ r ≡ endedAt place n ⌝ }
 {
     match place {
         Place::Resolving(_) => false,
+        Place::Starting(_) => false,
+        Place::Searching(_, _, _, _, _) => false,
+        Place::Closing(_, _, _, _) => false,
         Place::Between(k) => n <= k,
         Place::Inside(_, _) => false,
     }
@@ -78,17 +82,15 @@ fn run(
     q: Counts,
     roots: &[usize],
     target: &mut [usize],
-    stamp: &mut [usize],
-    from: &mut [usize],
-    followed: &mut [usize],
+    marks: &mut [u16],
     flag: &mut [usize],
     list: &mut [u64],
 ) -> Traversal
     requires ads { ⌜ Measured (now v) (p .nodes) (p .definitions) × Measured (now w) (q .nodes) (q .definitions) × (now roots ≡ pairGraph (now v) (now b) (now w) (now c) .roots) ⌝ }
-    requires ready { ⌜ Ready (now v) (now w) (now target) (now stamp) (now from) (now followed) (now flag) (now list) ⌝ }
-    ensures { λ r. ⌜ Traversed (pairGraph (now (v .entry)) (now (b .entry)) (now (w .entry)) (now (c .entry))) (r .count) (r .length) (now (target .exit)) (now (stamp .exit)) (now (from .exit)) (now (followed .exit)) (now (flag .exit)) (now (list .exit)) ⌝ }
+    requires ready { ⌜ Ready (now v) (now w) (now target) (now flag) (now list) × (now marks ≡ replicate markWords 0) ⌝ }
+    ensures { λ r. ⌜ Traversed (pairGraph (now (v .entry)) (now (b .entry)) (now (w .entry)) (now (c .entry))) (r .count) (r .length) (now (target .exit)) (now (flag .exit)) (now (list .exit)) ⌝ }
 {
-    let n = p.definitions + q.definitions + roots.len();
+    let n = roots.len();
     let mut s = first_position(p.nodes + q.nodes);
     let mut count: usize = 0;
     loop {
@@ -99,61 +101,30 @@ fn run(
                 length: s.len,
             };
         }
-        s = rule::transition(
-            v,
-            b,
-            p,
-            w,
-            c,
-            q,
-            roots,
-            s,
-            target,
-            stamp,
-            from,
-            followed,
-            flag,
-            list,
-        );
+        s = rule::transition(v, b, p, w, c, q, roots, s, target, marks, flag, list);
         count += 1;
     }
 }
 
-// The traversal of two stored ads, v and b the words and bytes of the first, w and c those of the second: from clear marks and an empty
-// list, each of 2,048 numbers or more, to the targets and flags of their references and the list.
+// The traversal of two stored ads, v and b the words and bytes of the first, w and c those of the second: from clear targets, flags and
+// an empty list, each of 2,048 numbers or more, to the targets and flags of their references and the list. The other marks are its own.
 pub fn traverse(
     v: &[u64],
     b: &[u8],
     w: &[u64],
     c: &[u8],
     target: &mut [usize],
-    stamp: &mut [usize],
-    from: &mut [usize],
-    followed: &mut [usize],
     flag: &mut [usize],
     list: &mut [u64],
 ) -> Traversal
-    requires { ⌜ Ready (now v) (now w) (now target) (now stamp) (now from) (now followed) (now flag) (now list) ⌝ }
-    ensures { λ r. ⌜ Traversed (pairGraph (now (v .entry)) (now (b .entry)) (now (w .entry)) (now (c .entry))) (r .count) (r .length) (now (target .exit)) (now (stamp .exit)) (now (from .exit)) (now (followed .exit)) (now (flag .exit)) (now (list .exit)) ⌝ }
+    requires { ⌜ Ready (now v) (now w) (now target) (now flag) (now list) ⌝ }
+    ensures { λ r. ⌜ Traversed (pairGraph (now (v .entry)) (now (b .entry)) (now (w .entry)) (now (c .entry))) (r .count) (r .length) (now (target .exit)) (now (flag .exit)) (now (list .exit)) ⌝ }
 {
     let p = links::measure(v);
     let q = links::measure(w);
     let mut room = [0usize; 4];
     let n = links::find_roots(v, b, p, w, c, q, &mut room);
     let roots = &room[..n];
-    run(
-        v,
-        b,
-        p,
-        w,
-        c,
-        q,
-        roots,
-        target,
-        stamp,
-        from,
-        followed,
-        flag,
-        list,
-    )
+    let mut marks = [0u16; 12288];
+    run(v, b, p, w, c, q, roots, target, &mut marks, flag, list)
 }

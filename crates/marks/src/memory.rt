@@ -39,6 +39,22 @@ pub fn read(marks: &[u16], x: usize, j: usize) -> usize
     wide(marks[x * PER_NODE + j])
 }
 
+// How many links of the node x were followed.
+pub fn followed(marks: &[u16], x: usize) -> usize
+    requires { ⌜ (x < 2048) × (markWords ≤ length (now marks)) ⌝ }
+    ensures { λ r. ⌜ r ≡ markAt (now (marks .entry)) 2 x ⌝ }
+{
+    read(marks, x, FOLLOWED)
+}
+
+// From which node x was entered: one more than that, 0 for none.
+pub fn entered_from(marks: &[u16], x: usize) -> usize
+    requires { ⌜ (x < 2048) × (markWords ≤ length (now marks)) ⌝ }
+    ensures { λ r. ⌜ r ≡ markAt (now (marks .entry)) 1 x ⌝ }
+{
+    read(marks, x, FROM)
+}
+
 // Mark j of the node x becomes a.
 pub fn write(marks: &mut [u16], x: usize, j: usize, a: usize)
     requires { ⌜ (x < 2048) × (j < 6) × (a < 65536) × (markWords ≤ length (now marks)) ⌝ }

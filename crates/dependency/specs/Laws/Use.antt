@@ -1,18 +1,16 @@
 -- The traversal as it is used: two stored ads and cleared memory are what it asks, and when it is over, what is found of a reference is
 -- its definition, and what its marks lead to are its needs. Assumes nothing.
-use mathlib.Core.Path.{_≡_, refl, sym, ap, _∙_}
+use mathlib.Core.Path.{_≡_, refl, sym, ap, _∙_, subst}
 use mathlib.Core.Bool.{Bool, true, false, cond}
 use mathlib.Core.List.{List, [], _∷_}
 use Prim.Native.Nat.{ℕ, zero, suc, _≤_}
 use native.Mathlib.Omega.{arith}
 use lib.ListN.{length, getD, replicate, length-replicate}
-use Rattle.syntax.specs.Tree.{Ad}
 use Rattle.graph.specs.Members.{numbers, raised}
 use Rattle.graph.specs.Graph.{Graph, Sound, Circular, needs}
 use Rattle.graph.specs.Transition.{marked, recordedAs, led}
 use Rattle.graph.specs.Laws.Traversal.{marks-back}
-use Rattle.links.specs.Pair.{StoredAd}
-use Rattle.links.specs.Laws.Layout.{stored-formed}
+use Rattle.links.specs.Pair.{Formed}
 use Rattle.marks.specs.Memory.{marksRoom, Clear}
 use Rattle.dependency.specs.Traversal.{Ready, Traversed, lookupOf, foundAt}
 use Rattle.dependency.specs.declared.Lookup as lookup
@@ -23,26 +21,27 @@ clear-zeros zero i = refl
 clear-zeros (suc n) zero = refl
 clear-zeros (suc n) (suc i) = clear-zeros n i
 
--- two stored ads and zeros are what the traversal asks
-pub ready : {v b w c : List ℕ} {x y : Ad} (n : ℕ) → marksRoom ≤ n → StoredAd v b x → StoredAd w c y →
-    Ready v w (replicate n 0) (replicate n 0) (replicate n 0) (replicate n 0) (replicate n 0) (replicate n 0)
-ready n h s t =
-    let k : marksRoom ≤ length (replicate {A = ℕ} n 0) = rw (length-replicate {A = ℕ} n 0) h in
-    record {
-      first-formed = stored-formed s;
-      second-formed = stored-formed t;
-      roomy = record { target-room = k; stamp-room = k; from-room = k; followed-room = k; flag-room = k; list-room = k };
-      cleared = record {
-        target-clear = clear-zeros n;
-        stamp-clear = clear-zeros n;
-        from-clear = clear-zeros n;
-        followed-clear = clear-zeros n;
-        flag-clear = clear-zeros n;
-        list-clear = clear-zeros n;
-      };
-    }
+-- two well-formed ads and zeros are what the traversal asks
+pub ready-zeros : {v w target flag list : List ℕ} (n : ℕ) → marksRoom ≤ n → Formed v → Formed w → target ≡ replicate n 0 → flag ≡ replicate n 0 → list ≡ replicate n 0 →
+    Ready v w target flag list
+ready-zeros n h f g t e l = record {
+  first-formed = f;
+  second-formed = g;
+  target-room = long t;
+  flag-room = long e;
+  list-room = long l;
+  target-clear = clear t;
+  flag-clear = clear e;
+  list-clear = clear l;
+}
+  where
+    long : {u : List ℕ} → u ≡ replicate n 0 → marksRoom ≤ length u
+    long q = let a = ap length q in let b = length-replicate {A = ℕ} n 0 in omega arith
 
-module _ {G : Graph} {count len : ℕ} {ta st fr fo fl ls : List ℕ} (t : Traversed G count len ta st fr fo fl ls) (x : ℕ) (r : G .ref x ≡ true) where
+    clear : {u : List ℕ} → u ≡ replicate n 0 → Clear u
+    clear q = subst Clear (sym q) (clear-zeros n)
+
+module _ {G : Graph} {count len : ℕ} {ta fl ls : List ℕ} (t : Traversed G count len ta fl ls) (x : ℕ) (r : G .ref x ≡ true) where
   plain : ¬ (Circular G x) → raised fl x ≡ false
   plain n = go (raised fl x) refl
     where
@@ -64,7 +63,7 @@ module _ {G : Graph} {count len : ℕ} {ta st fr fo fl ls : List ℕ} (t : Trave
   lookup-found {y} n e = rw (plain n) (ap foundAt (t .resolved x r ∙ ap marked e))
 
 -- what a node needs, by its marks
-pub needs-led : {G : Graph} → Sound G → {count len : ℕ} {ta st fr fo fl ls : List ℕ} → Traversed G count len ta st fr fo fl ls → (x : ℕ) →
+pub needs-led : {G : Graph} → Sound G → {count len : ℕ} {ta fl ls : List ℕ} → Traversed G count len ta fl ls → (x : ℕ) →
     needs G (raised fl) x ≡ cond (raised fl x) [] (led G (numbers ta) x)
 unfolding needs led
 needs-led {G} w {ta = ta} {fl = fl} t x = ap (λ (l : List ℕ). cond (raised fl x) [] l) (go (G .ref x) refl)

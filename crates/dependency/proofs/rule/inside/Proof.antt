@@ -1,50 +1,67 @@
 use denote.Ref.{now}
-use Rattle.links.specs.Laws.Numbering.{sources-are, stands-small}
-use mathlib.Core.Path.{refl}
-use mathlib.Core.Logic.{inl}
-use Rattle.dependency.proofs.Steps.{searches-few, stands-in, step-link, link-in, step-last, kept-grows}
+use native.Mathlib.Omega.{arith}
+use Rattle.links.specs.Laws.Numbering.{stands-small}
+use Rattle.dependency.proofs.Steps.{stands-in, kept-grows, need-in, step-link, step-last}
 use borrow.Author.Needs.{needs}
 use Rattle.dependency.proofs.rule.inside.Statement.{statement}
 use Rattle.dependency.proofs.rule.inside.Tie as tie
 
-add-m : tie.Need-add-m
-add-m c = let h = searches-few (c .before .before .before .before .before .before .before .before .before .before .before .pre .0 .0) (c .before .before .before .before .before .before .before .before .before .before .before .pre .0 .1) (c .before .before .before .before .before .before .before .before .before .before .before .pre .0 .3) (c .before .before .before .before .before .before .before .before .before .before .before .pre .0 .4) in search needs
+followed-requires : tie.Need-followed-requires
+followed-requires c κs =
+    let s = c .before .before .before .before .before .before .before in
+    (stands-small (now (s .args .v)) (now (s .args .w)) (s .args .x) (s .pre .0 .2), s .pre .1 .0 .marks-room)
 
-mul-i : tie.Need-mul-i
-mul-i c = let h = stands-in (now (c .before .before .before .before .before .before .before .before .before .before .before .args .v)) (now (c .before .before .before .before .before .before .before .before .before .before .before .args .w)) (c .before .before .before .before .before .before .before .before .before .before .before .args .x) (now (c .before .before .before .before .before .before .before .before .before .before .before .args .followed)) (c .before .before .before .before .before .before .before .before .before .before .before .pre .0 .2) (c .before .before .before .before .before .before .before .before .before .before .before .pre .1 .0 .followed-room) in search needs
-
-slice-read-i : tie.Need-slice-read-i
-slice-read-i c = stands-in (now (c .before .before .before .before .before .before .before .before .before .before .before .before .args .v)) (now (c .before .before .before .before .before .before .before .before .before .before .before .before .args .w)) (c .before .before .before .before .before .before .before .before .before .before .before .before .args .x) (now (c .before .before .before .before .before .before .before .before .before .before .before .before .args .followed)) (c .before .before .before .before .before .before .before .before .before .before .before .before .pre .0 .2) (c .before .before .before .before .before .before .before .before .before .before .before .before .pre .1 .0 .followed-room)
-
-degree-requires : tie.Need-degree-requires
-degree-requires c κs = (c .before .before .before .before .before .before .before .before .before .before .before .before .before .pre .0 .0 .formed, c .before .before .before .before .before .before .before .before .before .before .before .before .before .pre .0 .1 .formed, c .before .before .before .before .before .before .before .before .before .before .before .before .before .pre .0 .2, stands-in (now (c .before .before .before .before .before .before .before .before .before .before .before .before .before .args .v)) (now (c .before .before .before .before .before .before .before .before .before .before .before .before .before .args .w)) (c .before .before .before .before .before .before .before .before .before .before .before .before .before .args .x) (now (c .before .before .before .before .before .before .before .before .before .before .before .before .before .args .target)) (c .before .before .before .before .before .before .before .before .before .before .before .before .before .pre .0 .2) (c .before .before .before .before .before .before .before .before .before .before .before .before .before .pre .1 .0 .target-room), stands-in (now (c .before .before .before .before .before .before .before .before .before .before .before .before .before .args .v)) (now (c .before .before .before .before .before .before .before .before .before .before .before .before .before .args .w)) (c .before .before .before .before .before .before .before .before .before .before .before .before .before .args .x) (now (c .before .before .before .before .before .before .before .before .before .before .before .before .before .args .flag)) (c .before .before .before .before .before .before .before .before .before .before .before .before .before .pre .0 .2) (c .before .before .before .before .before .before .before .before .before .before .before .before .before .pre .1 .0 .flag-room))
+need-count-requires : tie.Need-need-count-requires
+need-count-requires c κs =
+    let s = c .before .before .before .before .before .before .before .before in
+    (s .pre .0 .0, s .pre .0 .1, s .pre .0 .2, stands-in (now (s .args .v)) (now (s .args .w)) (s .args .x) (s .pre .0 .2) (s .pre .1 .0 .target-room), stands-in (now (s .args .v)) (now (s .args .w)) (s .args .x) (s .pre .0 .2) (s .pre .1 .0 .flag-room))
 
 led-to-requires : tie.Need-led-to-requires
-led-to-requires c κs = (c .before .before .before .before .before .before .before .before .before .before .before .before .before .before .before .pre .0 .0 .formed, c .before .before .before .before .before .before .before .before .before .before .before .before .before .before .before .pre .0 .1 .formed, c .before .before .before .before .before .before .before .before .before .before .before .before .before .before .before .pre .0 .2, stands-in (now (c .before .before .before .before .before .before .before .before .before .before .before .before .before .before .before .args .v)) (now (c .before .before .before .before .before .before .before .before .before .before .before .before .before .before .before .args .w)) (c .before .before .before .before .before .before .before .before .before .before .before .before .before .before .before .args .x) (now (c .before .before .before .before .before .before .before .before .before .before .before .before .before .before .before .args .target)) (c .before .before .before .before .before .before .before .before .before .before .before .before .before .before .before .pre .0 .2) (c .before .before .before .before .before .before .before .before .before .before .before .before .before .before .before .pre .1 .0 .target-room), λ b d. link-in (c .before .before .before .before .before .before .before .before .before .before .before .before .before .before .before .pre .0 .0) (c .before .before .before .before .before .before .before .before .before .before .before .before .before .before .before .pre .0 .1) b d (c .before .before .before .before .before .before .before .before .before .before .before .before .before .before .before .args .k) (c .before .before .before .before .before .before .before .before .before .before .before .before .before .before .before .args .x) _ _ (now (c .before .before .before .before .before .before .before .before .before .before .before .before .before .before .before .args .target)) (now (c .before .before .before .before .before .before .before .before .before .before .before .before .before .before .before .args .followed)) (now (c .before .before .before .before .before .before .before .before .before .before .before .before .before .before .before .args .flag)) (c .before .degree .ensures .0 b d (sources-are (now (c .before .before .before .before .before .before .before .before .before .before .before .before .before .before .before .args .v)) b (now (c .before .before .before .before .before .before .before .before .before .before .before .before .before .before .before .args .w)) d (c .before .before .before .before .before .before .before .before .before .before .before .before .before .before .before .pre .0 .0) (c .before .before .before .before .before .before .before .before .before .before .before .before .before .before .before .pre .0 .1) 0)) refl (c .if1 .taken))
-
-stamp-of-requires : tie.Need-stamp-of-requires
-stamp-of-requires c κs = searches-few (c .before .before .before .before .before .before .before .before .before .before .before .before .before .before .before .before .pre .0 .0) (c .before .before .before .before .before .before .before .before .before .before .before .before .before .before .before .before .pre .0 .1) (c .before .before .before .before .before .before .before .before .before .before .before .before .before .before .before .before .pre .0 .3) (c .before .before .before .before .before .before .before .before .before .before .before .before .before .before .before .before .pre .0 .4)
+led-to-requires c κs =
+    let e-if1 = c .if1 in
+    let e-need-count = c .before .need-count in
+    let e-followed = c .before .before .followed in
+    let s = c .before .before .before .before .before .before .before .before .before .before in
+    (s .pre .0 .0, s .pre .0 .1, s .pre .0 .2, stands-in (now (s .args .v)) (now (s .args .w)) (s .args .x) (s .pre .0 .2) (s .pre .1 .0 .target-room), λ b d. need-in _ b _ d (s .args .x) _ _ (now (s .args .target)) (now (s .args .marks)) (now (s .args .flag)) (e-need-count .ensures .0 b d) (e-followed .ensures) (e-if1 .taken))
 
 follow-requires : tie.Need-follow-requires
-follow-requires c κs = let y = c .before .before .before .before .before .before .led-to .ensures .1 in let r = c .before .before .before .before .before .before .before .before .before .before .before .before .before .before .before .before .before .before .before .before .before .before .pre .1 .0 in let f = c .before .before .before .before .before .before .before .before .degree .ensures .1 in ((stands-small (now (c .before .before .before .before .before .before .before .before .before .before .before .before .before .before .before .before .before .before .before .before .before .before .args .v)) (now (c .before .before .before .before .before .before .before .before .before .before .before .before .before .before .before .before .before .before .before .before .before .before .args .w)) (c .before .before .before .before .before .before .before .before .before .before .before .before .before .before .before .before .before .before .before .before .before .before .args .x) (c .before .before .before .before .before .before .before .before .before .before .before .before .before .before .before .before .before .before .before .before .before .before .pre .0 .2), stands-in (now (c .before .before .before .before .before .before .before .before .before .before .before .before .before .before .before .before .before .before .before .before .before .before .args .v)) (now (c .before .before .before .before .before .before .before .before .before .before .before .before .before .before .before .before .before .before .before .before .before .before .args .w)) (c .before .before .before .before .before .before .before .before .before .before .before .before .before .before .before .before .before .before .before .before .before .before .args .x) (now (c .before .before .before .before .before .before .before .before .before .before .before .before .before .before .before .before .before .before .before .before .before .before .args .followed)) (c .before .before .before .before .before .before .before .before .before .before .before .before .before .before .before .before .before .before .before .before .before .before .pre .0 .2) (c .before .before .before .before .before .before .before .before .before .before .before .before .before .before .before .before .before .before .before .before .before .before .pre .1 .0 .followed-room), stands-in (now (c .before .before .before .before .before .before .before .before .before .before .before .before .before .before .before .before .before .before .before .before .before .before .args .v)) (now (c .before .before .before .before .before .before .before .before .before .before .before .before .before .before .before .before .before .before .before .before .before .before .args .w)) (c .before .before .before .before .before .before .before .before .before .before .before .before .before .before .before .before .before .before .before .before .before .before .args .x) (now (c .before .before .before .before .before .before .before .before .before .before .before .before .before .before .before .before .before .before .before .before .before .before .args .flag)) (c .before .before .before .before .before .before .before .before .before .before .before .before .before .before .before .before .before .before .before .before .before .before .pre .0 .2) (c .before .before .before .before .before .before .before .before .before .before .before .before .before .before .before .before .before .before .before .before .before .before .pre .1 .0 .flag-room), search needs), (search needs, search needs, search needs))
+follow-requires c κs =
+    let e-led-to = c .before .led-to in
+    let e-if1 = c .before .before .if1 in
+    let e-need-count = c .before .before .before .need-count in
+    let s = c .before .before .before .before .before .before .before .before .before .before .before .before in
+    (stands-small (now (s .args .v)) (now (s .args .w)) (s .args .x) (s .pre .0 .2), e-led-to .ensures .1, (let q = e-need-count .ensures .1 in let h = e-if1 .taken in omega arith), s .pre .1 .0 .marks-room)
 
 returns : tie.Need-returns
-returns c = (λ b d e. c .before .before .before .before .before .before .before .before .follow .ensures .0 _ _ _ (step-link (c .before .before .before .before .before .before .before .before .before .before .before .before .before .before .before .before .before .before .before .before .before .before .before .before .before .before .before .before .before .before .before .pre .0 .0) (c .before .before .before .before .before .before .before .before .before .before .before .before .before .before .before .before .before .before .before .before .before .before .before .before .before .before .before .before .before .before .before .pre .0 .1) b d (c .before .before .before .before .before .before .before .before .before .before .before .before .before .before .before .before .before .before .before .before .before .before .before .before .before .before .before .before .before .before .before .args .k) (c .before .before .before .before .before .before .before .before .before .before .before .before .before .before .before .before .before .before .before .before .before .before .before .before .before .before .before .before .before .before .before .args .x) _ _ (now (c .before .before .before .before .before .before .before .before .before .before .before .before .before .before .before .before .before .before .before .before .before .before .before .before .before .before .before .before .before .before .before .args .target)) (now (c .before .before .before .before .before .before .before .before .before .before .before .before .before .before .before .before .before .before .before .before .before .before .before .before .before .before .before .before .before .before .before .args .followed)) (now (c .before .before .before .before .before .before .before .before .before .before .before .before .before .before .before .before .before .before .before .before .before .before .before .before .before .before .before .before .before .before .before .args .flag)) (c .before .before .before .before .before .before .before .before .before .before .before .before .before .before .before .before .before .degree .ensures .0 b d (sources-are (now (c .before .before .before .before .before .before .before .before .before .before .before .before .before .before .before .before .before .before .before .before .before .before .before .before .before .before .before .before .before .before .before .args .v)) b (now (c .before .before .before .before .before .before .before .before .before .before .before .before .before .before .before .before .before .before .before .before .before .before .before .before .before .before .before .before .before .before .before .args .w)) d (c .before .before .before .before .before .before .before .before .before .before .before .before .before .before .before .before .before .before .before .before .before .before .before .before .before .before .before .before .before .before .before .pre .0 .0) (c .before .before .before .before .before .before .before .before .before .before .before .before .before .before .before .before .before .before .before .before .before .before .before .before .before .before .before .before .before .before .before .pre .0 .1) 0)) refl (c .before .before .before .before .before .before .before .before .before .before .before .before .before .before .before .before .if1 .taken) (c .before .before .before .before .before .before .before .before .before .before .before .before .before .before .before .led-to .ensures .0 b d) (c .before .before .before .before .before .before .before .before .before .before .before .before .before .before .stamp-of .ensures) (c .before .before .before .before .before .before .before .before .before .before .before .before .before .closes .ensures b d e)), (kept-grows _ (c .before .before .before .before .before .before .before .before .follow .ensures .1 .0), c .before .before .before .before .before .before .before .before .follow .ensures .1 .1))
+returns c =
+    let e-follow = c .before .before .follow in
+    let at-e-led-to = c .before .before .before .before in
+    let e-led-to = at-e-led-to .led-to in
+    let e-if1 = at-e-led-to .before .if1 in
+    let e-need-count = at-e-led-to .before .before .need-count in
+    let e-followed = at-e-led-to .before .before .before .followed in
+    (λ b d. e-follow .ensures .0 _ _ _ _ (step-link _ b _ d _ _ _ _ _ _ (e-need-count .ensures .0 b d) (e-followed .ensures) (e-if1 .taken) (e-led-to .ensures .0 b d)), kept-grows _ (e-follow .ensures .1))
 
-mul-f : tie.Need-mul-f
-mul-f c = let h = stands-small (now (c .before .before .before .before .before .before .before .before .before .before .before .before .before .before .before .args .v)) (now (c .before .before .before .before .before .before .before .before .before .before .before .before .before .before .before .args .w)) (c .before .before .before .before .before .before .before .before .before .before .before .before .before .before .before .args .x) (c .before .before .before .before .before .before .before .before .before .before .before .before .before .before .before .pre .0 .2) in search needs
-
-slice-read-f : tie.Need-slice-read-f
-slice-read-f c = stands-in (now (c .before .before .before .before .before .before .before .before .before .before .before .before .before .before .before .before .args .v)) (now (c .before .before .before .before .before .before .before .before .before .before .before .before .before .before .before .before .args .w)) (c .before .before .before .before .before .before .before .before .before .before .before .before .before .before .before .before .args .x) (now (c .before .before .before .before .before .before .before .before .before .before .before .before .before .before .before .before .args .from)) (c .before .before .before .before .before .before .before .before .before .before .before .before .before .before .before .before .pre .0 .2) (c .before .before .before .before .before .before .before .before .before .before .before .before .before .before .before .before .pre .1 .0 .from-room)
+entered-from-requires : tie.Need-entered-from-requires
+entered-from-requires c κs =
+    let s = c .before .before .before .before .before .before .before .before .before .before .before in
+    (stands-small (now (s .args .v)) (now (s .args .w)) (s .args .x) (s .pre .0 .2), s .pre .1 .0 .marks-room)
 
 leave-requires : tie.Need-leave-requires
-leave-requires c κs = (searches-few (c .before .before .before .before .before .before .before .before .before .before .before .before .before .before .before .before .before .pre .0 .0) (c .before .before .before .before .before .before .before .before .before .before .before .before .before .before .before .before .before .pre .0 .1) (c .before .before .before .before .before .before .before .before .before .before .before .before .before .before .before .before .before .pre .0 .3) (c .before .before .before .before .before .before .before .before .before .before .before .before .before .before .before .before .before .pre .0 .4) .1, stands-small (now (c .before .before .before .before .before .before .before .before .before .before .before .before .before .before .before .before .before .args .v)) (now (c .before .before .before .before .before .before .before .before .before .before .before .before .before .before .before .before .before .args .w)) (c .before .before .before .before .before .before .before .before .before .before .before .before .before .before .before .before .before .args .x) (c .before .before .before .before .before .before .before .before .before .before .before .before .before .before .before .before .before .pre .0 .2), c .before .before .before .before .before .before .before .before .before .before .before .before .before .before .before .before .before .pre .1 .1)
+leave-requires c κs =
+    let s = c .before .before .before .before .before .before .before .before .before .before .before .before .before in
+    (let k = s .pre .0 .3 in omega arith, stands-small (now (s .args .v)) (now (s .args .w)) (s .args .x) (s .pre .0 .2), s .pre .1 .1)
 
 returns-2 : tie.Need-returns-2
-returns-2 c = (λ b d e. c .before .before .leave .ensures .0 _ _ _ _ _ _ (step-last (c .before .before .before .before .before .before .before .before .before .before .before .before .before .before .before .before .before .before .before .before .pre .0 .0) (c .before .before .before .before .before .before .before .before .before .before .before .before .before .before .before .before .before .before .before .before .pre .0 .1) b d (c .before .before .before .before .before .before .before .before .before .before .before .before .before .before .before .before .before .before .before .before .args .k) (c .before .before .before .before .before .before .before .before .before .before .before .before .before .before .before .before .before .before .before .before .args .x) _ _ (now (c .before .before .before .before .before .before .before .before .before .before .before .before .before .before .before .before .before .before .before .before .args .target)) (now (c .before .before .before .before .before .before .before .before .before .before .before .before .before .before .before .before .before .before .before .before .args .followed)) (now (c .before .before .before .before .before .before .before .before .before .before .before .before .before .before .before .before .before .before .before .before .args .flag)) (c .before .before .before .before .before .before .degree .ensures .0 b d (sources-are (now (c .before .before .before .before .before .before .before .before .before .before .before .before .before .before .before .before .before .before .before .before .args .v)) b (now (c .before .before .before .before .before .before .before .before .before .before .before .before .before .before .before .before .before .before .before .before .args .w)) d (c .before .before .before .before .before .before .before .before .before .before .before .before .before .before .before .before .before .before .before .before .pre .0 .0) (c .before .before .before .before .before .before .before .before .before .before .before .before .before .before .before .before .before .before .before .before .pre .0 .1) 0)) refl (search needs) refl), (c .before .before .leave .ensures .1, inl refl))
+returns-2 c =
+    let e-leave = c .before .before .leave in
+    let at-e-entered-from = c .before .before .before .before in
+    let e-entered-from = at-e-entered-from .entered-from in
+    let e-if1 = at-e-entered-from .before .before .if1 in
+    let e-need-count = at-e-entered-from .before .before .before .need-count in
+    let e-followed = at-e-entered-from .before .before .before .before .followed in
+    (λ b d. e-leave .ensures .0 _ _ _ _ (step-last _ b _ d _ _ _ _ _ _ (e-need-count .ensures .0 b d) (e-followed .ensures) (e-if1 .left) (e-entered-from .ensures)), e-leave .ensures .1)
 
 pub inside-spec : {M : Type 1} → statement M
 inside-spec = tie.close (tie.spec
-    add-m mul-i slice-read-i degree-requires led-to-requires stamp-of-requires (λ c κs. search needs) follow-requires (λ c. search needs)
-    (λ c. search needs) (λ c. search needs) (λ c. search needs) returns mul-f slice-read-f leave-requires (λ c. search needs) (λ c. search needs)
-    returns-2)
+    followed-requires need-count-requires led-to-requires follow-requires (λ c. search needs) returns entered-from-requires leave-requires (λ c. search needs) (λ c. search needs) returns-2)

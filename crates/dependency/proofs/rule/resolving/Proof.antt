@@ -1,25 +1,41 @@
 use denote.Ref.{now}
 use native.Mathlib.Omega.{arith}
 use Rattle.links.specs.Laws.Numbering.{nodes-fit, measured-self}
-use Rattle.dependency.proofs.Steps.{nth-stands, step-node, stands-in}
+use Rattle.dependency.proofs.Steps.{nodes-few, nth-stands, step-node, stands-in}
 use borrow.Author.Needs.{needs}
 use Rattle.dependency.proofs.rule.resolving.Statement.{statement}
 use Rattle.dependency.proofs.rule.resolving.Tie as tie
 
 add-n : tie.Need-add-n
-add-n c = let h = nodes-fit (c .before .before .before .before .before .before .before .pre .0) in let k = nodes-fit (c .before .before .before .before .before .before .before .pre .1) in search needs
+add-n c =
+    let s = c .before .before .before .before .before .before .before in
+    let h = nodes-fit (s .pre .0) in let k = nodes-fit (s .pre .1) in search needs
 
 node-at-requires : tie.Need-node-at-requires
-node-at-requires c κs = let h = nodes-fit (measured-self (c .before .before .before .before .before .before .before .pre .0)) in let k = nodes-fit (measured-self (c .before .before .before .before .before .before .before .pre .1)) in let j = c .before .before .before .before .before .before .before .pre .2 in omega arith
+node-at-requires c κs =
+    let s = c .before .before .before .before .before .before .before in
+    let h = nodes-few (s .pre .0) (s .pre .1) in let j = s .pre .2 in omega arith
 
 found-at-requires : tie.Need-found-at-requires
-found-at-requires c κs = (measured-self (c .before .before .before .before .before .before .before .before .pre .0), measured-self (c .before .before .before .before .before .before .before .before .pre .1), nth-stands (c .before .before .before .before .before .before .before .before .pre .0) (c .before .before .before .before .before .before .before .before .pre .1) (c .before .before .before .before .before .before .before .before .pre .2) (c .node-at .ensures))
+found-at-requires c κs =
+    let e-node-at = c .node-at in
+    let s = c .before .before .before .before .before .before .before .before in
+    (measured-self (s .pre .0), measured-self (s .pre .1), nth-stands (s .pre .0) (s .pre .1) (s .pre .2) (e-node-at .ensures))
 
 resolve-requires : tie.Need-resolve-requires
-resolve-requires c κs = let a = c .before .before .before .before .before .before .before .before .before .before .pre .0 .nodes-are in let b = c .before .before .before .before .before .before .before .before .before .before .pre .1 .nodes-are in let d = c .before .before .before .before .before .before .before .before .before .before .pre .2 in (omega arith, stands-in (now (c .before .before .before .before .before .before .before .before .before .before .args .v)) (now (c .before .before .before .before .before .before .before .before .before .before .args .w)) _ (now (c .before .before .before .before .before .before .before .before .before .before .args .target)) (nth-stands (c .before .before .before .before .before .before .before .before .before .before .pre .0) (c .before .before .before .before .before .before .before .before .before .before .pre .1) (c .before .before .before .before .before .before .before .before .before .before .pre .2) (c .before .before .node-at .ensures)) (c .before .before .before .before .before .before .before .before .before .before .pre .3))
+resolve-requires c κs =
+    let e-node-at = c .before .before .node-at in
+    let s = c .before .before .before .before .before .before .before .before .before .before in
+    let a = s .pre .0 .nodes-are in let b = s .pre .1 .nodes-are in let d = s .pre .2 in (omega arith, stands-in (now (s .args .v)) (now (s .args .w)) _ (nth-stands (s .pre .0) (s .pre .1) (s .pre .2) (e-node-at .ensures)) (s .pre .3))
 
 returns : tie.Need-returns
-returns c = (λ st fr fo fl ls. c .before .before .resolve .ensures .0 _ st fr fo fl ls (step-node (c .before .before .before .before .before .before .before .before .before .before .before .before .before .pre .0) (c .before .before .before .before .before .before .before .before .before .before .before .before .before .pre .1) (now (c .before .before .before .before .before .before .before .before .before .before .before .before .before .args .b)) (now (c .before .before .before .before .before .before .before .before .before .before .before .before .before .args .c)) (c .before .before .before .before .before .node-at .ensures) (c .before .before .before .before .found-at .ensures)), c .before .before .resolve .ensures .1)
+returns c =
+    let e-resolve = c .before .before .resolve in
+    let at-e-found-at = c .before .before .before .before in
+    let e-found-at = at-e-found-at .found-at in
+    let e-node-at = at-e-found-at .before .node-at in
+    let s = at-e-found-at .before .before .before .before .before .before .before .before .before in
+    (λ ma fl ls. e-resolve .ensures .0 _ ma fl ls (step-node (s .pre .0) (s .pre .1) _ _ (e-node-at .ensures) (e-found-at .ensures)), e-resolve .ensures .1)
 
 pub resolving-spec : {M : Type 1} → statement M
 resolving-spec = tie.close (tie.spec
