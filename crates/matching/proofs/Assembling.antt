@@ -53,7 +53,7 @@ suc-at [] i h = absurd (let q : ⊥ = omega arith in q)
 suc-at (x ∷ l) zero h = refl
 suc-at (x ∷ l) (suc i) h = suc-at l i (let k : suc i < suc (length l) = h in omega arith)
 
-module _ (v b w c : List ℕ) {count len : ℕ} {ta st fr fo fl ls : List ℕ} (f : Formed v) (g : Formed w) (t : Traversed (pairGraph v b w c) count len ta st fr fo fl ls) where
+module _ (v b w c : List ℕ) {count len : ℕ} {ta fl ls : List ℕ} (f : Formed v) (g : Formed w) (t : Traversed (pairGraph v b w c) count len ta fl ls) where
   abbrev G : Graph
   G = pairGraph v b w c
 

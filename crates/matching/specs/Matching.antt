@@ -53,10 +53,12 @@ pub record Concluded (need : ℕ → List ℕ) (v b w c : List ℕ) (steps count
   pub answers : r ≡ Finished (isTrue first-requirement && isTrue second-requirement) (rankOf first-rank) (rankOf second-rank) steps count
 
 -- What the hunt of document 01 counted: 'its end is what these moves, exactly as many as it counts, make one after another of its first
--- place, clear marks and an empty list'; 'a count of at most sixteen times the square of the nodes of both ads'
+-- place, clear marks and an empty list'; 'a count of at most sixteen times the square of the nodes of both ads', and of sixteen times the
+-- nodes, whatever the loops
 pub record Counted (G : Graph) (count : ℕ) : Type 0 where
   pub ends : Ended G (transitions G count (first G))
   pub exact : (j : ℕ) → j < count → ¬ (Ended G (transitions G j (first G)))
+  pub linear : count ≤ 16 * G .size
   pub small : count ≤ 16 * (G .size * G .size)
 
 -- THE MATCH OF TWO WELL-FORMED ADS within their rooms: 'A match is this run at k = 0 from a blank table, its count being the

@@ -113,26 +113,23 @@ fn conclude(
     Outcome::Finished(both(x, y), i, j, steps, count)
 }
 
-// The match of two well-formed ads, from clear marks, an empty list and a blank table.
+// The match of two well-formed ads, from clear targets and flags, an empty list and a blank table.
 fn match_marked(
     v: &[u64],
     b: &[u8],
     w: &[u64],
     c: &[u8],
     target: &mut [usize],
-    stamp: &mut [usize],
-    from: &mut [usize],
-    followed: &mut [usize],
     flag: &mut [usize],
     list: &mut [u64],
     table: &mut [u64],
     budget: u16,
 ) -> Outcome
-    requires ready { ⌜ Ready (now v) (now w) (now target) (now stamp) (now from) (now followed) (now flag) (now list) ⌝ }
+    requires ready { ⌜ Ready (now v) (now w) (now target) (now flag) (now list) ⌝ }
     requires room { ⌜ (length (now list) ≡ 2048) × (now table ≡ replicate 4096 0) ⌝ }
     ensures { λ r. ⌜ Match (now (v .entry)) (now (b .entry)) (now (w .entry)) (now (c .entry)) budget (now (table .exit)) (now (list .exit)) r ⌝ }
 {
-    let t = dependency::traverse(v, b, w, c, target, stamp, from, followed, flag, list);
+    let t = dependency::traverse(v, b, w, c, target, flag, list);
     let steps = evaluation::run(v, b, w, c, target, flag, list, t.length, 0, budget, table);
     if steps < t.length {
         return Outcome::Unfinished(steps, t.count);
@@ -156,24 +153,8 @@ fn match_formed(
     ad::clear_words(table);
     ad::clear_words(list);
     let mut target = [0usize; 2048];
-    let mut stamp = [0usize; 2048];
-    let mut from = [0usize; 2048];
-    let mut followed = [0usize; 2048];
     let mut flag = [0usize; 2048];
-    match_marked(
-        v,
-        b,
-        w,
-        c,
-        &mut target,
-        &mut stamp,
-        &mut from,
-        &mut followed,
-        &mut flag,
-        list,
-        table,
-        budget,
-    )
+    match_marked(v, b, w, c, &mut target, &mut flag, list, table, budget)
 }
 
 // Whether the lent memory is smaller than the room of two ads, 2,048 values and 2,048 entries.

@@ -1,16 +1,16 @@
 -- What a traversal comes to, for an order. Assumes nothing.
 use Prim.Native.Nat.{ℕ, suc, _-_, _≤_}
 use native.Mathlib.Omega.{arith}
-use mathlib.Core.Path.{_≡_, refl, sym, ap, _∙_, subst}
+use mathlib.Core.Path.{_≡_, refl, ap, _∙_}
 use mathlib.Core.List.{List, _++_, map, append-nil}
 use lib.ListN.{length, drop, replicate, drop-of-length-le}
-use Rattle.links.specs.Pair.{pairGraph, Formed}
-use Rattle.dependency.specs.Traversal.{Ready, Traversed}
-use Rattle.matching.specs.Laws.Traversed.{ready-zeros, entered-of, counted-of}
+use Rattle.links.specs.Pair.{pairGraph}
+use Rattle.dependency.specs.Traversal.{Traversed}
+use Rattle.matching.specs.Laws.Traversed.{entered-of, counted-of}
 use Rattle.ordering.specs.declared.Order.the-variants.{Found}
 use Rattle.ordering.specs.Ordering.{OrdersBy}
 
-pub orders-of : (v b w c : List ℕ) {count len : ℕ} {ta st fr fo fl ls : List ℕ} → length ls ≡ 2048 → Traversed (pairGraph v b w c) count len ta st fr fo fl ls →
+pub orders-of : (v b w c : List ℕ) {count len : ℕ} {ta fl ls : List ℕ} → length ls ≡ 2048 → Traversed (pairGraph v b w c) count len ta fl ls →
     OrdersBy v b w c fl ls (Found count len)
 orders-of v b w c {count} {len} e t = record {
   count = count;
@@ -31,9 +31,3 @@ orders-of v b w c {count} {len} e t = record {
 pub cleared-all : (l : List ℕ) (i : ℕ) → i ≤ length l → length l ≤ i → replicate i 0 ++ drop i l ≡ replicate (length l) 0
 cleared-all l i h k =
     ap (λ (u : List ℕ). replicate i 0 ++ u) (drop-of-length-le l k) ∙ append-nil (replicate i 0) ∙ ap (λ (n : ℕ). replicate n 0) (let q : i ≡ length l = omega arith in q)
-
--- zeros are clear marks and an empty list
-pub ready-marks : {v w flag list : List ℕ} → Formed v → Formed w → flag ≡ replicate 2048 0 → list ≡ replicate 2048 0 →
-    Ready v w (replicate 2048 0) (replicate 2048 0) (replicate 2048 0) (replicate 2048 0) flag list
-ready-marks {v} {w} {list = list} f g e d =
-    subst (λ (u : List ℕ). Ready v w (replicate 2048 0) (replicate 2048 0) (replicate 2048 0) (replicate 2048 0) u list) (sym e) (ready-zeros 2048 (omega arith) f g d)

@@ -64,21 +64,7 @@ fn order_formed(
     clear(flags);
     ad::clear_words(list);
     let mut target = [0usize; 2048];
-    let mut stamp = [0usize; 2048];
-    let mut from = [0usize; 2048];
-    let mut followed = [0usize; 2048];
-    let t = dependency::traverse(
-        v,
-        b,
-        w,
-        c,
-        &mut target,
-        &mut stamp,
-        &mut from,
-        &mut followed,
-        flags,
-        list,
-    );
+    let t = dependency::traverse(v, b, w, c, &mut target, flags, list);
     Order::Found(t.count, t.length)
 }
 

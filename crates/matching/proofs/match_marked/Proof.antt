@@ -1,25 +1,44 @@
 use denote.Ref.{now}
 use native.Mathlib.Omega.{arith}
-use mathlib.Core.Path.{refl, _∙_}
+use mathlib.Core.Path.{refl}
 use Rattle.matching.proofs.Assembling.{clear-long, at-run, match-of}
 use borrow.Author.Needs.{needs}
 use Rattle.matching.proofs.match_marked.Statement.{statement}
 use Rattle.matching.proofs.match_marked.Tie as tie
 
 run-requires : tie.Need-run-requires
-run-requires c κs = let h = c .before .before .before .before .before .before .before .before .before .before .before .before .before .before .before .before .before .before .before .before .before .before .before .before .before .before .before .before .before .before .before .before .before .before .pre .0 .roomy .target-room in let k = c .before .before .before .before .before .before .before .before .before .before .before .before .before .before .before .before .before .before .before .before .before .before .before .before .before .before .before .before .before .before .before .before .before .before .pre .0 .roomy .flag-room in let x = c .before .before .before .before .before .before .before .before .before .before .before .before .before .before .before .before .traverse .kept .1 .1 .1 .1 .0 in let y = c .before .before .before .before .before .before .before .before .before .before .before .before .before .before .before .before .traverse .kept .1 .1 .1 .1 .1 .1 .1 .1 .0 in at-run (now (c .before .before .before .before .before .before .before .before .before .before .before .before .before .before .before .before .before .before .before .before .before .before .before .before .before .before .before .before .before .before .before .before .before .before .args .v)) (now (c .before .before .before .before .before .before .before .before .before .before .before .before .before .before .before .before .before .before .before .before .before .before .before .before .before .before .before .before .before .before .before .before .before .before .args .b)) (now (c .before .before .before .before .before .before .before .before .before .before .before .before .before .before .before .before .before .before .before .before .before .before .before .before .before .before .before .before .before .before .before .before .before .before .args .w)) (now (c .before .before .before .before .before .before .before .before .before .before .before .before .before .before .before .before .before .before .before .before .before .before .before .before .before .before .before .before .before .before .before .before .before .before .args .c)) (c .before .before .before .before .before .before .before .before .before .before .before .before .before .before .before .before .before .before .before .before .before .before .before .before .before .before .before .before .before .before .before .before .before .before .pre .0 .first-formed) (c .before .before .before .before .before .before .before .before .before .before .before .before .before .before .before .before .before .before .before .before .before .before .before .before .before .before .before .before .before .before .before .before .before .before .pre .0 .second-formed) (c .before .before .before .before .before .before .before .before .before .before .before .before .before .before .before .before .traverse .ensures) (omega arith) (omega arith) (clear-long (c .before .before .before .before .before .before .before .before .before .before .before .before .before .before .before .before .before .before .before .before .before .before .before .before .before .before .before .before .before .before .before .before .before .before .pre .1 .1))
+run-requires c κs =
+    let at-e-traverse = c .before .before .before .before .before .before .before .before .before .before in
+    let e-traverse = at-e-traverse .traverse in
+    let s = at-e-traverse .before .before .before .before .before .before .before .before .before .before .before .before in
+    let h = s .pre .0 .target-room in let k = s .pre .0 .flag-room in let x = e-traverse .kept .1 .1 .1 .1 .0 in let y = e-traverse .kept .1 .1 .1 .1 .1 .0 in at-run (now (s .args .v)) (now (s .args .b)) (now (s .args .w)) (now (s .args .c)) (s .pre .0 .first-formed) (s .pre .0 .second-formed) (e-traverse .ensures) (omega arith) (omega arith) (clear-long (s .pre .1 .1))
 
 returns : tie.Need-returns
-returns c = match-of (now (c .before .before .before .before .before .before .before .before .before .before .before .before .before .before .before .before .before .before .before .before .before .before .before .before .before .before .before .before .before .before .before .before .before .before .before .before .before .before .before .args .v)) (now (c .before .before .before .before .before .before .before .before .before .before .before .before .before .before .before .before .before .before .before .before .before .before .before .before .before .before .before .before .before .before .before .before .before .before .before .before .before .before .before .args .b)) (now (c .before .before .before .before .before .before .before .before .before .before .before .before .before .before .before .before .before .before .before .before .before .before .before .before .before .before .before .before .before .before .before .before .before .before .before .before .before .before .before .args .w)) (now (c .before .before .before .before .before .before .before .before .before .before .before .before .before .before .before .before .before .before .before .before .before .before .before .before .before .before .before .before .before .before .before .before .before .before .before .before .before .before .before .args .c)) (c .before .before .before .before .before .before .before .before .before .before .before .before .before .before .before .before .before .before .before .before .before .before .before .before .before .before .before .before .before .before .before .before .before .before .before .before .before .before .before .pre .0 .first-formed) (c .before .before .before .before .before .before .before .before .before .before .before .before .before .before .before .before .before .before .before .before .before .before .before .before .before .before .before .before .before .before .before .before .before .before .before .before .before .before .before .pre .0 .second-formed) (c .before .before .before .before .before .before .before .before .before .before .before .before .before .before .before .before .before .before .before .before .before .traverse .ensures) (c .before .before .before .before .before .before .before .before .before .before .before .before .before .before .before .before .before .before .before .before .before .before .before .before .before .before .before .before .before .before .before .before .before .before .before .before .before .before .before .pre .1 .1) (c .before .before .before .before .run .ensures) (let h = c .before .before .before .before .before .before .before .before .before .before .before .before .before .before .before .before .before .before .before .before .before .before .before .before .before .before .before .before .before .before .before .before .before .before .before .before .before .before .before .pre .1 .0 in let k = c .before .before .before .before .before .before .before .before .before .before .before .before .before .before .before .before .before .before .before .before .before .traverse .kept .1 .1 .1 .1 .1 .1 .1 .1 .1 .0 in omega arith) (λ h. refl) (λ h. absurd (let k = c .if1 .taken in omega arith))
+returns c =
+    let e-if1 = c .if1 in
+    let at-e-run = c .before .before .before .before in
+    let e-run = at-e-run .run in
+    let at-e-traverse = at-e-run .before .before .before .before .before .before .before .before .before .before .before in
+    let e-traverse = at-e-traverse .traverse in
+    let s = at-e-traverse .before .before .before .before .before .before .before .before .before .before .before .before in
+    match-of (now (s .args .v)) (now (s .args .b)) (now (s .args .w)) (now (s .args .c)) (s .pre .0 .first-formed) (s .pre .0 .second-formed) (e-traverse .ensures) (s .pre .1 .1) (e-run .ensures) (let h = s .pre .1 .0 in let k = e-traverse .kept .1 .1 .1 .1 .1 .1 .0 in omega arith) (λ h. refl) (λ h. absurd (let k = e-if1 .taken in omega arith))
 
 conclude-requires : tie.Need-conclude-requires
-conclude-requires c κs = (c .before .before .before .before .before .before .before .before .before .before .before .before .before .before .before .before .before .before .before .before .before .before .before .before .before .before .before .before .before .before .before .before .before .before .before .before .before .before .before .before .pre .0 .first-formed, c .before .before .before .before .before .before .before .before .before .before .before .before .before .before .before .before .before .before .before .before .before .before .before .before .before .before .before .before .before .before .before .before .before .before .before .before .before .before .before .before .pre .0 .second-formed)
+conclude-requires c κs =
+    let s = c .before .before .before .before .before .before .before .before .before .before .before .before .before .before .before .before .before .before .before .before .before .before .before .before .before .before .before .before in
+    (s .pre .0 .first-formed, s .pre .0 .second-formed)
 
 returns-2 : tie.Need-returns-2
-returns-2 c = match-of (now (c .before .before .before .before .before .before .before .before .before .before .before .before .before .before .before .before .before .before .before .before .before .before .before .before .before .before .before .before .before .before .before .before .before .before .before .before .before .before .before .before .before .args .v)) (now (c .before .before .before .before .before .before .before .before .before .before .before .before .before .before .before .before .before .before .before .before .before .before .before .before .before .before .before .before .before .before .before .before .before .before .before .before .before .before .before .before .before .args .b)) (now (c .before .before .before .before .before .before .before .before .before .before .before .before .before .before .before .before .before .before .before .before .before .before .before .before .before .before .before .before .before .before .before .before .before .before .before .before .before .before .before .before .before .args .w)) (now (c .before .before .before .before .before .before .before .before .before .before .before .before .before .before .before .before .before .before .before .before .before .before .before .before .before .before .before .before .before .before .before .before .before .before .before .before .before .before .before .before .before .args .c)) (c .before .before .before .before .before .before .before .before .before .before .before .before .before .before .before .before .before .before .before .before .before .before .before .before .before .before .before .before .before .before .before .before .before .before .before .before .before .before .before .before .before .pre .0 .first-formed) (c .before .before .before .before .before .before .before .before .before .before .before .before .before .before .before .before .before .before .before .before .before .before .before .before .before .before .before .before .before .before .before .before .before .before .before .before .before .before .before .before .before .pre .0 .second-formed) (c .before .before .before .before .before .before .before .before .before .before .before .before .before .before .before .before .before .before .before .before .before .before .before .traverse .ensures) (c .before .before .before .before .before .before .before .before .before .before .before .before .before .before .before .before .before .before .before .before .before .before .before .before .before .before .before .before .before .before .before .before .before .before .before .before .before .before .before .before .before .pre .1 .1) (c .before .before .before .before .before .before .run .ensures) (let h = c .before .before .before .before .before .before .before .before .before .before .before .before .before .before .before .before .before .before .before .before .before .before .before .before .before .before .before .before .before .before .before .before .before .before .before .before .before .before .before .before .before .pre .1 .0 in let k = c .before .before .before .before .before .before .before .before .before .before .before .before .before .before .before .before .before .before .before .before .before .before .before .traverse .kept .1 .1 .1 .1 .1 .1 .1 .1 .1 .0 in omega arith) (λ h. absurd (let k = c .before .before .if1 .left in omega arith)) (λ h. c .conclude .ensures)
+returns-2 c =
+    let e-conclude = c .conclude in
+    let e-if1 = c .before .before .if1 in
+    let at-e-run = c .before .before .before .before .before .before in
+    let e-run = at-e-run .run in
+    let at-e-traverse = at-e-run .before .before .before .before .before .before .before .before .before .before .before in
+    let e-traverse = at-e-traverse .traverse in
+    let s = at-e-traverse .before .before .before .before .before .before .before .before .before .before .before .before in
+    match-of (now (s .args .v)) (now (s .args .b)) (now (s .args .w)) (now (s .args .c)) (s .pre .0 .first-formed) (s .pre .0 .second-formed) (e-traverse .ensures) (s .pre .1 .1) (e-run .ensures) (let h = s .pre .1 .0 in let k = e-traverse .kept .1 .1 .1 .1 .1 .1 .0 in omega arith) (λ h. absurd (let k = e-if1 .left in omega arith)) (λ h. e-conclude .ensures)
 
 pub match-marked-spec : {M : Type 1} → statement M
 match-marked-spec = tie.close (tie.spec
-    (λ c κs. search needs) run-requires (λ c. search needs) (λ c. search needs) (λ c. search needs) (λ c. search needs) (λ c. search needs)
-    (λ c. search needs) (λ c. search needs) returns conclude-requires (λ c. search needs) (λ c. search needs) (λ c. search needs) (λ c. search needs)
-    (λ c. search needs) (λ c. search needs) (λ c. search needs) returns-2)
+    (λ c κs. search needs) run-requires (λ c. search needs) (λ c. search needs) (λ c. search needs) (λ c. search needs) returns conclude-requires (λ c. search needs) (λ c. search needs) (λ c. search needs) (λ c. search needs) returns-2)
