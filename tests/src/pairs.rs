@@ -117,12 +117,6 @@ impl Pair {
     }
 }
 
-/// 01: "a count of at most sixteen times the square of the nodes of both ads".
-pub fn most_transitions(trees: &[Ad; 2]) -> u64 {
-    let nodes = trees.iter().map(Ad::node_count).sum::<usize>() as u64;
-    16 * nodes * nodes
-}
-
 fn samples(rng: &mut Rng, family: usize, stored: &Samples) -> [Sample; 2] {
     let (first, second) = match family {
         0 => matches::match_pair(rng),
