@@ -17,7 +17,7 @@ pub fn plots(count: usize) -> [(&'static str, Plot); 2] {
 }
 
 /// The median times of both calls.
-fn medians(count: usize, calls: [Timed; 2]) -> [f64; 2] {
+fn medians(count: usize, calls: Vec<Timed>) -> [f64; 2] {
     let times = rounds(count, calls);
     [0, 1].map(|call| median(&times, |round| round[call]))
 }
@@ -25,7 +25,7 @@ fn medians(count: usize, calls: [Timed; 2]) -> [f64; 2] {
 fn reading(count: usize) -> Plot {
     let shape = |name, all: Vec<Vec<u8>>| {
         let point = |text: &Vec<u8>| {
-            let calls = [calls::library_read(text), calls::reference_read(text)];
+            let calls = vec![calls::library_read(text), calls::reference_read(text)];
             (text.len() as f64, medians(count, calls))
         };
         Series::new(name, all.iter().map(point).collect())
@@ -58,7 +58,7 @@ fn matching(count: usize) -> Plot {
         let point = |texts: [Vec<u8>; 2]| {
             let pair = [pairs::both(texts)];
             let nodes: usize = pair[0].iter().map(|ad| ad.tree.node_count()).sum();
-            let calls = [
+            let calls = vec![
                 calls::library_match(&pair, u16::MAX),
                 calls::reference_match(&pair, u16::MAX),
             ];
