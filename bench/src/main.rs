@@ -51,8 +51,8 @@ fn measure(rounds: Option<usize>) -> Result<(), String> {
     println!(
         "Medians of {rounds} rounds, processor time of the thread. The programs take turns, all built\n\
          for release, the reference with overflow checks; it allocates and frees its trees within its\n\
-         calls. Spread is the 10th to the 90th percentile of a ratio, itself that of the library's to\n\
-         itself.\n\n\
+         calls. The linear reference is the same with a linear search for circular references. Spread\n\
+         is the 10th to the 90th percentile of a ratio, itself that of the library's to itself.\n\n\
          Load before: {}\n",
         load()
     );

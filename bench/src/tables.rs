@@ -11,7 +11,9 @@ use reference::tree::Ad;
 type Text = (&'static str, Vec<u8>);
 type Pairs = (&'static str, Vec<[Both; 2]>);
 
+/// The second program as it is, and with its linear search for circular references.
 const REFERENCE: &str = "reference";
+const LINEAR: &str = "linear reference";
 
 fn all_texts() -> Vec<Text> {
     vec![
@@ -42,6 +44,10 @@ fn all_pairs() -> Vec<Pairs> {
         (
             "(e) the job and 256 such benches",
             pairs::benches().into_iter().map(pairs::both).collect(),
+        ),
+        (
+            "(f) 512 conditionals in one ring",
+            one(pairs::conditional_ring(most)),
         ),
     ]
 }
@@ -120,11 +126,12 @@ fn add_stored(count: usize, name: &str, ad: &Both, [checking, printing]: &mut [T
 
 fn matching(count: usize, all: &[Pairs]) -> Table {
     let memory = "table, list and the traversal's marks are cleared by the call";
-    let mut table = Table::new("Matching", memory, &["Pair"], &[REFERENCE]);
+    let mut table = Table::new("Matching", memory, &["Pair"], &[REFERENCE, LINEAR]);
     for (name, pairs) in all {
         let calls = vec![
             calls::library_match(pairs, u16::MAX),
             calls::reference_match(pairs, u16::MAX),
+            calls::linear_match(pairs, u16::MAX),
             calls::library_match(pairs, u16::MAX),
         ];
         table.add(name, &[], count, calls);
@@ -171,7 +178,12 @@ fn shares_of(count: usize, (name, pairs): &Pairs) -> Vec<Vec<String>> {
     };
     let library = by(calls::library_check(&memories), calls::library_match);
     let reference = by(calls::reference_check(&trees), calls::reference_match);
-    let programs = [(*name, "library", library), ("", REFERENCE, reference)];
+    let linear = by(calls::reference_check(&trees), calls::linear_match);
+    let programs = [
+        (*name, "library", library),
+        ("", REFERENCE, reference),
+        ("", LINEAR, linear),
+    ];
     let row = |(name, program, calls): (&str, &str, Vec<Timed>)| {
         let times = rounds(count.div_ceil(2), calls);
         let check = share(&times, |round| round[0]);
