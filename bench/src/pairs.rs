@@ -28,6 +28,11 @@ pub fn doubled(count: usize) -> [Vec<u8>; 2] {
     [doublings(count), b"[Requirements=true]".to_vec()]
 }
 
+/// The same in both ads.
+pub fn doubled_twice(count: usize) -> [Vec<u8>; 2] {
+    [doublings(count), doublings(count)]
+}
+
 /// The name of one of so many places; the last of a side is its Requirements.
 fn place_name(place: usize, count: usize) -> String {
     if place + 1 == count {
