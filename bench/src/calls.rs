@@ -5,9 +5,11 @@ use classad::bounds::{BYTES, WORDS};
 use classad::sys as library;
 use reference::bounds;
 use reference::check::check;
-use reference::matching::match_ads;
+use reference::components;
+use reference::matching::{match_ads, Match};
 use reference::print::print;
 use reference::read::read;
+use reference::refusal::Refusal;
 use reference::tree::Ad;
 use std::hint::black_box;
 
@@ -156,13 +158,21 @@ pub fn library_match(pairs: &[[Both; 2]], budget: u16) -> Timed<'_> {
 }
 
 pub fn reference_match(pairs: &[[Both; 2]], budget: u16) -> Timed<'_> {
+    match_by(match_ads, pairs, budget)
+}
+
+/// The reference with its linear search for circular references.
+pub fn linear_match(pairs: &[[Both; 2]], budget: u16) -> Timed<'_> {
+    match_by(components::match_ads, pairs, budget)
+}
+
+type MatchAds = for<'a> fn(&'a Ad, &'a Ad, u16) -> Result<Match<'a>, Refusal>;
+
+fn match_by(match_ads: MatchAds, pairs: &[[Both; 2]], budget: u16) -> Timed<'_> {
     Timed::new(move || {
         for [first, second] in pairs {
-            drop(black_box(match_ads(
-                black_box(&first.tree),
-                &second.tree,
-                budget,
-            )));
+            let (first, second) = (black_box(&first.tree), &second.tree);
+            drop(black_box(match_ads(first, second, budget)));
         }
     })
 }

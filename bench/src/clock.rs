@@ -34,36 +34,31 @@ impl<'a> Timed<'a> {
     }
 }
 
+/// The times of some calls in one round, in the order in which they were given.
+pub type Round = Vec<f64>;
+
 /// The time of each call in so many rounds. Every second round goes backwards, so that no
 /// call always comes behind the same other one.
-pub fn rounds<const N: usize>(count: usize, mut calls: [Timed; N]) -> Vec<[f64; N]> {
+pub fn rounds(count: usize, mut calls: Vec<Timed>) -> Vec<Round> {
     let round = |number: usize| {
-        let mut times = [0.0; N];
-        for turn in 0..N {
-            let call = if number.is_multiple_of(2) {
-                turn
-            } else {
-                N - 1 - turn
-            };
-            times[call] = calls[call].time();
+        if number.is_multiple_of(2) {
+            return calls.iter_mut().map(Timed::time).collect();
         }
+        let mut times: Round = calls.iter_mut().rev().map(Timed::time).collect();
+        times.reverse();
         times
     };
     (0..count).map(round).collect()
 }
 
 /// Of what is asked of each round: the part of all values that lies below, from 0 to 1.
-pub fn percentile<const N: usize>(
-    rounds: &[[f64; N]],
-    part: f64,
-    asked: impl Fn(&[f64; N]) -> f64,
-) -> f64 {
+pub fn percentile(rounds: &[Round], part: f64, asked: impl Fn(&Round) -> f64) -> f64 {
     let mut found: Vec<f64> = rounds.iter().map(asked).collect();
     found.sort_by(f64::total_cmp);
     found[((found.len() - 1) as f64 * part).round() as usize]
 }
 
-pub fn median<const N: usize>(rounds: &[[f64; N]], asked: impl Fn(&[f64; N]) -> f64) -> f64 {
+pub fn median(rounds: &[Round], asked: impl Fn(&Round) -> f64) -> f64 {
     percentile(rounds, 0.5, asked)
 }
 

@@ -1,61 +1,65 @@
-//! The lines of the tables: medians, their ratio and its spread.
+//! The lines of the tables of times: medians, their ratios and how these spread.
 
-use crate::clock::{median, percentile, rounds, Timed};
-use std::fmt::Write;
+use crate::clock::{median, percentile, rounds, Round, Timed};
+use crate::markdown::{self, microseconds, ratio};
 
 /// What the spread leaves out at either end.
 const LOW: f64 = 0.1;
 const HIGH: f64 = 0.9;
 
-/// A table: its title, what the calls do to memory, and its lines.
+/// A table: its title, what the calls do to memory, and its lines. `facts` head the name of a
+/// text, ad or pair and what is told of it; `others` are the programs beside the library.
 pub struct Table {
     title: &'static str,
-    facts: &'static str,
     memory: &'static str,
+    facts: Vec<&'static str>,
+    others: Vec<&'static str>,
     lines: Vec<Line>,
 }
 
-/// One text, ad or pair, with the times of the library, the reference, and the library again
-/// in each round.
+/// One text, ad or pair, with the times of the library, of the others, and of the library
+/// again in each round.
 struct Line {
     name: String,
-    facts: String,
-    times: Vec<[f64; 3]>,
+    facts: Vec<String>,
+    times: Vec<Round>,
 }
 
 impl Table {
-    /// `facts` heads what is told of a text, ad or pair beside its name.
-    pub fn new(title: &'static str, facts: &'static str, memory: &'static str) -> Table {
-        let lines = Vec::new();
+    pub fn new(
+        title: &'static str,
+        memory: &'static str,
+        facts: &[&'static str],
+        others: &[&'static str],
+    ) -> Table {
         Table {
             title,
-            facts,
             memory,
-            lines,
+            facts: facts.to_vec(),
+            others: others.to_vec(),
+            lines: Vec::new(),
         }
     }
 
-    /// Times a line: the library's call twice and the reference's once in each round.
-    pub fn add(&mut self, name: &str, facts: String, count: usize, calls: [Timed; 3]) {
+    /// Times a line: the library's call twice and each other's once in each round.
+    pub fn add(&mut self, name: &str, facts: &[String], count: usize, calls: Vec<Timed>) {
+        assert_eq!(calls.len(), self.others.len() + 2, "calls of {name}");
         self.lines.push(Line {
             name: name.to_string(),
-            facts,
+            facts: facts.to_vec(),
             times: rounds(count, calls),
         });
     }
 
     pub fn text(&self) -> String {
-        let mut text = format!("{}\n  memory: {}\n", self.title, self.memory);
-        writeln!(
-            text,
-            "  {:<34} {:>24} {:>9} {:>9} {:>6} {:>14}  {:>21}",
-            "", self.facts, "library", "reference", "ratio", "10% to 90%", "library to itself"
-        )
-        .unwrap();
-        for line in &self.lines {
-            text += &line.text();
+        let mut heads = [&self.facts[..], &["library"]].concat();
+        for other in &self.others {
+            heads.extend([other, "ratio", "spread"]);
         }
-        text + "\n"
+        heads.push("itself");
+        let rows: Vec<Vec<String>> = self.lines.iter().map(Line::cells).collect();
+        let table = markdown::table(&heads, &rows);
+        format!("{}; memory: {}\n\n{table}\n", self.title, self.memory)
     }
 
     /// For each line the median of the library against itself, and its spread.
@@ -65,23 +69,39 @@ impl Table {
 }
 
 impl Line {
-    fn text(&self) -> String {
-        let [library, reference] = [0, 1].map(|call| median(&self.times, |round| round[call]));
-        let [ratio, low, high] = spread(&self.times, |round| round[0] / round[1]);
-        let [itself, least, most] = self.noise();
-        format!(
-            "  {:<34} {:>24} {library:>9.1} {reference:>9.1} {ratio:>6.2} {low:>6.2} to {high:>5.2}  \
-             {itself:>5.2}, {least:>5.2} to {most:>5.2}\n",
-            self.name, self.facts
-        )
+    fn cells(&self) -> Vec<String> {
+        let mut cells = vec![self.name.clone()];
+        cells.extend(self.facts.iter().cloned());
+        cells.push(microseconds(median(&self.times, |round| round[0])));
+        for other in 1..self.again() {
+            let [middle, low, high] = spread(&self.times, |round| round[0] / round[other]);
+            cells.extend([
+                microseconds(median(&self.times, |round| round[other])),
+                ratio(middle),
+                between(low, high),
+            ]);
+        }
+        let [_, low, high] = self.noise();
+        cells.push(between(low, high));
+        cells
+    }
+
+    /// Where the library's second time stands.
+    fn again(&self) -> usize {
+        self.times[0].len() - 1
     }
 
     fn noise(&self) -> [f64; 3] {
-        spread(&self.times, |round| round[0] / round[2])
+        let again = self.again();
+        spread(&self.times, |round| round[0] / round[again])
     }
 }
 
+fn between(low: f64, high: f64) -> String {
+    format!("{} to {}", ratio(low), ratio(high))
+}
+
 /// The median, the 10th and the 90th percentile.
-fn spread(times: &[[f64; 3]], asked: impl Fn(&[f64; 3]) -> f64) -> [f64; 3] {
+fn spread(times: &[Round], asked: impl Fn(&Round) -> f64) -> [f64; 3] {
     [0.5, LOW, HIGH].map(|part| percentile(times, part, &asked))
 }

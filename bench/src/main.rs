@@ -4,6 +4,7 @@ mod calls;
 mod clock;
 mod growth;
 mod lines;
+mod markdown;
 mod pairs;
 mod plot;
 mod tables;
@@ -48,13 +49,15 @@ fn number(word: &str) -> Option<usize> {
 fn measure(rounds: Option<usize>) -> Result<(), String> {
     let rounds = rounds.ok_or(USAGE)?;
     println!(
-        "medians of {rounds} rounds, processor time of the thread; library and reference take turns,\n\
-         both built for release, the reference with overflow checks. The reference allocates and\n\
-         frees its trees within its calls.\nload before: {}\n",
+        "Medians of {rounds} rounds, processor time of the thread. The programs take turns, all built\n\
+         for release, the reference with overflow checks; it allocates and frees its trees within its\n\
+         calls. The linear reference is the same with a linear search for circular references. Spread\n\
+         is the 10th to the 90th percentile of a ratio, itself that of the library's to itself.\n\n\
+         Load before: {}\n",
         load()
     );
     print!("{}", tables::run(rounds));
-    println!("load after: {}", load());
+    println!("\nLoad after: {}", load());
     Ok(())
 }
 

@@ -14,14 +14,23 @@ pub fn realistic() -> [Vec<u8>; 2] {
 }
 
 /// `a1 = a0 + a0; a2 = a1 + a1; ..`, so many in all, and Requirements and Rank on the last.
-pub fn doubled(count: usize) -> [Vec<u8>; 2] {
+fn doublings(count: usize) -> Vec<u8> {
     let sums = (1..count).map(|place| format!("a{place}=a{0}+a{0};", place - 1));
     let last = count - 1;
-    let first = format!(
+    let text = format!(
         "[a0=1;{}Requirements=a{last}==0;Rank=a{last}]",
         sums.collect::<String>()
     );
-    [first.into_bytes(), b"[Requirements=true]".to_vec()]
+    text.into_bytes()
+}
+
+pub fn doubled(count: usize) -> [Vec<u8>; 2] {
+    [doublings(count), b"[Requirements=true]".to_vec()]
+}
+
+/// The same in both ads.
+pub fn doubled_twice(count: usize) -> [Vec<u8>; 2] {
+    [doublings(count), doublings(count)]
 }
 
 /// The name of one of so many places; the last of a side is its Requirements.
@@ -46,19 +55,31 @@ fn sides(count: usize, expression: impl Fn(usize, usize) -> String) -> [Vec<u8>;
 /// From the first ad's place to the second's same place, and from there to the first's
 /// next, the last to the first; so many places a side.
 pub fn ring(count: usize) -> [Vec<u8>; 2] {
+    sides(count, |side, place| onward(side, place, count))
+}
+
+/// The same ring of `d = other.e ? other.e : other.e`.
+pub fn conditional_ring(count: usize) -> [Vec<u8>; 2] {
     sides(count, |side, place| {
-        format!("other.{}", place_name((place + side) % count, count))
+        conditional(&onward(side, place, count))
     })
+}
+
+fn onward(side: usize, place: usize, count: usize) -> String {
+    format!("other.{}", place_name((place + side) % count, count))
+}
+
+fn conditional(operand: &str) -> String {
+    format!("{operand}?{operand}:{operand}")
 }
 
 /// `d = other.e ? other.e : other.e`, each on the one before, on the other side; so many a side.
 pub fn chain(count: usize) -> [Vec<u8>; 2] {
     sides(count, |side, place| {
-        let below = match (place + side).checked_sub(1) {
+        conditional(&match (place + side).checked_sub(1) {
             Some(before) => format!("other.{}", place_name(before, count)),
             None => "true".to_string(),
-        };
-        format!("{below}?{below}:{below}")
+        })
     })
 }
 

@@ -40,18 +40,25 @@ pub struct Pair<'a> {
 
 impl<'a> Pair<'a> {
     pub fn new(first: &'a Ad, second: &'a Ad) -> Pair<'a> {
+        Pair::searched(first, second, Pair::circular_by_reachability)
+    }
+
+    /// With another search for circular references, whose answer goes by slot.
+    pub fn searched(
+        first: &'a Ad,
+        second: &'a Ad,
+        circular: impl Fn(&Pair<'a>) -> Vec<bool>,
+    ) -> Pair<'a> {
         let mut pair = Pair {
             ads: [first, second],
             sides: [first.numbered(), second.numbered()],
             links: vec![Vec::new(); bounds::SLOTS],
-            circular: vec![false; bounds::SLOTS],
+            circular: Vec::new(),
         };
         for id in pair.nodes() {
             pair.links[id.slot()] = pair.find_links(id);
         }
-        for id in pair.nodes() {
-            pair.circular[id.slot()] = pair.is_reference(id) && pair.leads_to(id, id);
-        }
+        pair.circular = circular(&pair);
         pair
     }
 
@@ -123,6 +130,14 @@ impl<'a> Pair<'a> {
             }
         }
         false
+    }
+
+    fn circular_by_reachability(&self) -> Vec<bool> {
+        let mut circular = vec![false; bounds::SLOTS];
+        for id in self.nodes() {
+            circular[id.slot()] = self.is_reference(id) && self.leads_to(id, id);
+        }
+        circular
     }
 
     /// 01: "A reference that leads, in one or more steps, back to itself is circular

@@ -12,12 +12,14 @@
 //! - `graph`: links, circular references, needs, evaluation order
 //! - `evaluate`: values by memoised recursion over needs
 //! - `matching`: table, step, run, match
+//! - `components`: the same match by a linear search for loops, to be timed alone
 //! - `report`: the lines that the command prints
 //! - `generate`, `rng`: seeded inputs and their coverage
 
 pub mod bounds;
 pub mod bytes;
 pub mod check;
+pub mod components;
 pub mod evaluate;
 pub mod generate;
 pub mod graph;

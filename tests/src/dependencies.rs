@@ -1,16 +1,17 @@
 //! Circular references and the list of two ads, against the reference's plain reachability
-//! and recursive list.
+//! and recursive list, and the number of transitions.
 
 use crate::cases::Cases;
 use crate::layout::Stored;
 use crate::matching::list_words;
 use crate::memory::{noise_words, size};
-use crate::pairs::{most_transitions, Pair, FAMILIES};
+use crate::pairs::{Pair, FAMILIES};
 use crate::report::{first_difference, Report, Table};
 use crate::shrink::shrunk_samples;
 use crate::stored::Samples;
+use crate::transitions;
 use classad::sys as library;
-use reference::bounds::{self, SLOTS};
+use reference::bounds::SLOTS;
 use reference::graph;
 use reference::rng::Rng;
 use reference::tree::Ad;
@@ -79,26 +80,9 @@ struct Outcome {
 fn both(call: &Call) -> (Outcome, Outcome) {
     let ads = call.pair.memories();
     let trees = call.pair.trees(call.flags >= SLOTS && call.list >= SLOTS);
-    let mut expected = by_reference(call, &trees, ads.clone());
+    let expected = by_reference(call, &trees, ads.clone());
     let got = by_library(call, ads);
-    // The reference makes no transitions: a match's count, within the bound.
-    if let Ok(trees) = &trees {
-        expected.answer[1] = transitions_of_match(&got.ads).min(most_transitions(trees));
-    }
     (got, expected)
-}
-
-fn transitions_of_match(ads: &[Stored; 2]) -> u64 {
-    let mut answer = [u64::MAX; 7];
-    library::matching(
-        [&ads[0].words, &ads[1].words],
-        [&ads[0].bytes, &ads[1].bytes],
-        &mut vec![0; 2 * bounds::SLOTS],
-        &mut vec![0; bounds::SLOTS],
-        0,
-        &mut answer,
-    );
-    answer[6]
 }
 
 fn by_library(call: &Call, ads: [Stored; 2]) -> Outcome {
@@ -131,8 +115,7 @@ fn by_reference(call: &Call, trees: &Result<[Ad; 2], u64>, ads: [Stored; 2]) -> 
     }
 }
 
-/// The answer without transitions, and in flags and list what they should hold; a refusal
-/// leaves all unchanged.
+/// The answer, and in flags and list what they should hold; a refusal leaves all unchanged.
 pub fn expected(trees: &Result<[Ad; 2], u64>, flags: &mut [u64], list: &mut [u64]) -> [u64; 3] {
     match trees {
         Err(number) => [*number, 0, 0],
@@ -144,7 +127,7 @@ pub fn expected(trees: &Result<[Ad; 2], u64>, flags: &mut [u64], list: &mut [u64
                 flags[id.slot()] = 1;
             }
             list[..SLOTS].copy_from_slice(&list_words(&order));
-            [0, 0, order.len() as u64]
+            [0, transitions::expected(&pair), order.len() as u64]
         }
     }
 }

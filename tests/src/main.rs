@@ -19,6 +19,7 @@ mod sample;
 mod shrink;
 mod slot;
 mod stored;
+mod transitions;
 mod values;
 
 use cases::Cases;

@@ -5,16 +5,17 @@ use crate::layout::Stored;
 use crate::memory::Rooms;
 use crate::sample::Sample;
 use crate::stored::Samples;
-use reference::generate::{ads, matches};
+use reference::generate::{ads, loops, matches};
 use reference::rng::Rng;
 use reference::tree::Ad;
 
-pub const FAMILIES: [&str; 11] = [
+pub const FAMILIES: [&str; 12] = [
     "made for matching",
     "small pair",
     "rich pair",
     "shared names",
     "rings",
+    "loops in loops",
     "large pair",
     "full pair",
     "the same ad twice",
@@ -40,15 +41,16 @@ impl Pair {
             480..=679 => 2,
             680..=719 => 3,
             720..=739 => 4,
-            740..=743 => 5,
-            744..=747 => 6,
-            748..=807 => 7,
-            808..=827 => 8,
-            828..=867 => 9,
-            _ => 10,
+            740..=743 => 6,
+            744..=747 => 7,
+            748..=807 => 8,
+            808..=827 => 9,
+            828..=867 => 10,
+            868..=959 => 11,
+            _ => 5,
         };
         let samples = samples(rng, family, stored);
-        let twice = family == 7;
+        let twice = family == 8;
         let mut rooms = [Rooms::draw(rng, 1), Rooms::draw(rng, 1)];
         if twice {
             rooms[1] = rooms[0];
@@ -115,12 +117,6 @@ impl Pair {
     }
 }
 
-/// 01: "a count of at most sixteen times the square of the nodes of both ads".
-pub fn most_transitions(trees: &[Ad; 2]) -> u64 {
-    let nodes = trees.iter().map(Ad::node_count).sum::<usize>() as u64;
-    16 * nodes * nodes
-}
-
 fn samples(rng: &mut Rng, family: usize, stored: &Samples) -> [Sample; 2] {
     let (first, second) = match family {
         0 => matches::match_pair(rng),
@@ -128,15 +124,16 @@ fn samples(rng: &mut Rng, family: usize, stored: &Samples) -> [Sample; 2] {
         2 => ads::rich_pair(rng),
         3 => ads::shared_pair(rng),
         4 => ads::ring_pair(rng),
-        5 => ads::large_pair(rng),
-        6 => ads::full_pair(rng),
-        7 => {
+        5 => loops::loop_pair(rng),
+        6 => ads::large_pair(rng),
+        7 => ads::full_pair(rng),
+        8 => {
             let ad = any_ad(rng);
             (ad.clone(), ad)
         }
-        8 if rng.chance(20) => (Ad::default(), Ad::default()),
-        8 => (any_ad(rng), Ad::default()),
-        9 => {
+        9 if rng.chance(20) => (Ad::default(), Ad::default()),
+        9 => (any_ad(rng), Ad::default()),
+        10 => {
             let samples = [stored.draw(rng, 0).1, Sample::of(any_ad(rng))];
             return either_way(rng, samples);
         }

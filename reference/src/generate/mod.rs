@@ -4,6 +4,7 @@ pub mod ads;
 pub mod coverage;
 pub mod damage;
 pub mod edges;
+pub mod loops;
 pub mod matches;
 pub mod spelling;
 pub mod tables;

@@ -2,11 +2,12 @@
 
 use crate::{ad, given_in};
 use reference::generate::ads::{large_pair, rich_pair, ring_pair, shared_pair};
+use reference::generate::loops::loop_pair;
 use reference::graph::{NodeId, Pair};
 use reference::rng::Rng;
 use reference::tree::{Ad, Expression, Scope};
 
-fn some_pairs(seed: u64, count: usize) -> Vec<(Ad, Ad)> {
+pub fn some_pairs(seed: u64, count: usize) -> Vec<(Ad, Ad)> {
     let mut rng = Rng::new(seed);
     let mut pairs = Vec::new();
     for number in 0..count {
@@ -14,6 +15,7 @@ fn some_pairs(seed: u64, count: usize) -> Vec<(Ad, Ad)> {
             0 => shared_pair(&mut rng),
             1 | 2 => ring_pair(&mut rng),
             3 => large_pair(&mut rng),
+            4..=7 => loop_pair(&mut rng),
             _ => rich_pair(&mut rng),
         });
     }

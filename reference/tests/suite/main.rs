@@ -2,6 +2,7 @@
 
 mod big;
 mod commands;
+mod components;
 mod examples;
 mod generated;
 mod graphs;

@@ -4,7 +4,6 @@ use super::draw::{Call, Draw, GuardedAd};
 use super::guarded::Guarded;
 use crate::layout::{self, Stored};
 use crate::matching::call::{LIST, TABLE};
-use crate::pairs::most_transitions;
 use crate::{checking, dependencies, matching, printing, reading};
 use classad::sys as library;
 use reference::bounds::{SLOTS, TEXT_BYTES};
@@ -110,8 +109,7 @@ pub fn dependencies(draw: &mut Draw) -> Call {
         answer.array_mut(),
     );
     let trees = trees(&ads, flags.len() >= SLOTS && list.len() >= SLOTS);
-    let mut expected = dependencies::expected(&trees, flags.expected_mut(), list.expected_mut());
-    expected[1] = allowed(&trees, answer.slice()[1]);
+    let expected = dependencies::expected(&trees, flags.expected_mut(), list.expected_mut());
     let [first, second] = ads;
     let call = answered(answer, &expected).with(flags).with(list);
     call.with_ad("first", first).with_ad("second", second)
@@ -138,8 +136,7 @@ pub fn matching(draw: &mut Draw) -> Call {
         .as_ref()
         .map(|[first, second]| graph::Pair::new(first, second));
     let rooms = [table.expected_mut(), list.expected_mut()];
-    let mut expected = matching::expected(&graph, budget, &stored, rooms);
-    expected[6] = allowed(&trees, answer.slice()[6]);
+    let expected = matching::expected(&graph, budget, &stored, rooms);
     let [first, second] = ads;
     let call = answered(answer, &expected).with(table).with(list);
     let call = call.with_number("budget", u64::from(budget));
@@ -151,11 +148,4 @@ fn stored(trees: &Result<[Ad; 2], u64>) -> [Stored; 2] {
         Ok(ads) => [Stored::of(&ads[0]), Stored::of(&ads[1])],
         Err(_) => [Stored::zero(), Stored::zero()],
     }
-}
-
-/// The reference makes no transitions: any count within the bound will do, 0 after a refusal.
-fn allowed(trees: &Result<[Ad; 2], u64>, got: u64) -> u64 {
-    trees
-        .as_ref()
-        .map_or(0, |trees| got.min(most_transitions(trees)))
 }

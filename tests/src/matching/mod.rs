@@ -5,11 +5,12 @@ pub mod call;
 
 use crate::cases::Cases;
 use crate::layout::Stored;
-use crate::pairs::{most_transitions, Pair, FAMILIES};
+use crate::pairs::{Pair, FAMILIES};
 use crate::report::{first_difference, Report, Table};
 use crate::shrink::shrunk_samples;
 use crate::slot::{self, Words, KINDS};
 use crate::stored::Samples;
+use crate::transitions;
 use call::{Call, BUDGETS, LIST, TABLE};
 use classad::sys as library;
 use reference::bounds;
@@ -98,12 +99,8 @@ fn both(call: &Call) -> (Outcome, Outcome) {
         .as_ref()
         .map(|[first, second]| graph::Pair::new(first, second));
     let budget = budget(call, &graph);
-    let mut expected = by_reference(call, &graph, budget, ads.clone());
+    let expected = by_reference(call, &graph, budget, ads.clone());
     let got = by_library(call, budget, ads);
-    // The reference makes no transitions: any count within the bound will do.
-    if trees.is_ok_and(|trees| got.answer[6] <= most_transitions(&trees)) {
-        expected.answer[6] = got.answer[6];
-    }
     (got, expected)
 }
 
@@ -148,8 +145,7 @@ fn by_reference(call: &Call, graph: &Graph, budget: u16, ads: [Stored; 2]) -> Ou
     }
 }
 
-/// The answer without transitions, and in table and list what they should hold; a refusal
-/// leaves all unchanged.
+/// The answer, and in table and list what they should hold; a refusal leaves all unchanged.
 pub fn expected(
     graph: &Graph,
     budget: u16,
@@ -162,19 +158,19 @@ pub fn expected(
             let result = match_pair(graph, budget);
             table[..TABLE].copy_from_slice(&table_words(&result, ads));
             list[..LIST].copy_from_slice(&list_words(&result.order));
-            numbers(&result)
+            numbers(&result, transitions::expected(graph))
         }
     }
 }
 
-fn numbers(result: &Match) -> [u64; 7] {
+fn numbers(result: &Match, transitions: u64) -> [u64; 7] {
     let steps = result.steps as u64;
     match result.verdict {
-        None => [0, 0, 0, 0, 0, steps, 0],
+        None => [0, 0, 0, 0, 0, steps, transitions],
         Some(verdict) => {
             let ranks = [verdict.first_rank, verdict.second_rank].map(|rank| rank as u64);
             let matched = u64::from(verdict.matched);
-            [0, 1, matched, ranks[0], ranks[1], steps, 0]
+            [0, 1, matched, ranks[0], ranks[1], steps, transitions]
         }
     }
 }
