@@ -1,12 +1,12 @@
 -- A traversal and a run from its list make a match. Assumes nothing.
 use Prim.Native.Nat.{ℕ, zero, suc, _+_, _-_, _*_, _≤_, _<_, min}
 use native.Mathlib.Omega.{arith}
-use mathlib.Core.Path.{_≡_, refl, sym, ap, _∙_, subst, fun-ext}
+use mathlib.Core.Path.{_≡_, refl, sym, ap, _∙_, subst}
 use mathlib.Core.Logic.{_↔_, _⊎_, inl, inr}
 use mathlib.Core.Bool.{Bool, true, false, cond, _&&_}
 use mathlib.Core.List.{List, [], _∷_, _++_, map}
 use lib.ListN.{length, getD, take, drop, replicate, length-append, length-map, length-replicate, List·getD-append}
-use lib.Seq.{take-all, take-append-seam}
+use lib.Seq.{take-all}
 use Rattle.graph.specs.Members.{_∈_, here, there, Each, numbers, raised}
 use Rattle.graph.specs.Laws.Members.{mem-nil, mem-left, mem-right, at-mem}
 use Rattle.graph.specs.Graph.{Graph, Sound, Node, Circular, Flags, needs, Entered}
@@ -14,7 +14,7 @@ use Rattle.graph.specs.Laws.Traversal.{needs-links, needs-acyclic}
 use Rattle.links.specs.Pair.{pairGraph, rootsOf, requirements, rank, Formed, Stands}
 use Rattle.links.specs.Laws.Soundness.{pair-sound}
 use Rattle.dependency.specs.Traversal.{Traversed}
-use Rattle.dependency.specs.Laws.Use.{clear-zeros, needs-led}
+use Rattle.dependency.specs.Laws.Use.{clear-zeros}
 use Rattle.values.specs.declared.Value.{Value}
 use Rattle.slots.specs.declared.Slot.{Slot}
 use Rattle.slots.specs.declared.Slot.the-variants.{Blank, Held}
@@ -28,6 +28,7 @@ use Rattle.valuation.specs.Laws.Runs.{run-ran}
 use Rattle.evaluation.specs.Evaluation.{ruleAt, seen, needed, entries, stepsWords, RunTo, AtRun}
 use Rattle.matching.specs.Matching.{isTrue, rankOf, Worth, Concluded, Match}
 use Rattle.matching.specs.Laws.Traversed.{entered-of, counted-of}
+use Rattle.matching.specs.Laws.Running.{run-from}
 use Rattle.matching.specs.Laws.Concluding.{worth-of, roots-first, roots-second, ranks-first, ranks-second}
 use Rattle.matching.specs.declared.Outcome.{Outcome}
 use Rattle.matching.specs.declared.Outcome.the-variants.{Finished, Unfinished}
@@ -43,10 +44,6 @@ blank-zeros n x = rw (clear-zeros n (x * 2)) refl
 
 pub clear-long : {l : List ℕ} → l ≡ replicate 4096 0 → 4096 ≤ length l
 clear-long e = let h = ap length e in let k = length-replicate {A = ℕ} 4096 0 in omega arith
-
-less-one : (l : List ℕ) → map (λ (e : ℕ). e - 1) (map suc l) ≡ l
-less-one [] = refl
-less-one (x ∷ l) = ap (λ (u : List ℕ). (suc x - 1) ∷ u) (less-one l) ∙ ap (λ (y : ℕ). y ∷ l) (let q : suc x - 1 ≡ x = omega arith in q)
 
 suc-at : (l : List ℕ) (i : ℕ) → i < length l → getD (map suc l) i 0 ≡ suc (getD l i 0)
 suc-at [] i h = absurd (let q : ⊥ = omega arith in q)
@@ -66,24 +63,11 @@ module _ (v b w c : List ℕ) {count len : ℕ} {ta fl ls : List ℕ} (f : Forme
   nodes : Each (Node (pairGraph v b w c)) (t .order)
   nodes = entered-part (λ x n y m. sound .links-in x y (needs-links (pairGraph v b w c) sound (raised fl) (t .circular) x y m)) entered (λ y m. absurd (mem-nil m)) (sound .roots-in)
 
-  needed-are : needed (pairGraph v b w c) ta fl ≡ needs (pairGraph v b w c) (raised fl)
-  unfolding needed
-  needed-are = fun-ext (λ x. sym (needs-led sound t x))
-
   long : (length ls ≡ length (t .order) + (length ls - length (t .order)))
   long =
       ap length (t .written) ∙ length-append (map suc (t .order)) (replicate (length ls - length (t .order)) 0)
       ∙ (let p = length-map (t .order) suc in let q = length-replicate {A = ℕ} (length ls - length (t .order)) 0 in
       let z : length (map suc (t .order)) + length (replicate {A = ℕ} (length ls - length (t .order)) 0) ≡ length (t .order) + (length ls - length (t .order)) = omega arith in z)
-
-  entries-are : entries len ls ≡ t .order
-  unfolding entries
-  entries-are =
-      ap (λ (l : List ℕ). map (λ (e : ℕ). e - 1) l)
-      (ap (λ (l : List ℕ). take len l) (t .written)
-      ∙ ap (λ (n : ℕ). take n (map suc (t .order) ++ replicate (length ls - length (t .order)) 0)) (t .length-is ∙ sym (length-map (t .order) suc))
-      ∙ take-append-seam (map suc (t .order)) (replicate (length ls - length (t .order)) 0))
-      ∙ less-one (t .order)
 
   entry-at : (i : ℕ) → i < len → getD ls i 0 ≡ suc (getD (t .order) i 0)
   entry-at i h =
@@ -112,10 +96,7 @@ module _ (v b w c : List ℕ) {count len : ℕ} {ta fl ls : List ℕ} (f : Forme
 
   module _ {budget steps : ℕ} {before tb : List ℕ} (clear : before ≡ replicate 4096 0) (r : RunTo (needed (pairGraph v b w c) ta fl) (ruleAt v b w c) (entries len ls) 0 budget before tb steps) where
     run-is : RunTo (needs (pairGraph v b w c) (raised fl)) (ruleAt v b w c) (t .order) 0 budget (replicate 4096 0) tb steps
-    run-is =
-        subst (λ (l : List ℕ). RunTo (needs (pairGraph v b w c) (raised fl)) (ruleAt v b w c) l 0 budget (replicate 4096 0) tb steps) entries-are
-        (subst (λ (n : ℕ → List ℕ). RunTo n (ruleAt v b w c) (entries len ls) 0 budget (replicate 4096 0) tb steps) needed-are
-        (subst (λ (l : List ℕ). RunTo (needed (pairGraph v b w c) ta fl) (ruleAt v b w c) (entries len ls) 0 budget l tb steps) clear r))
+    run-is = run-from f g t (t .circular) entered (subst (λ (l : List ℕ). RunTo (needed (pairGraph v b w c) ta fl) (ruleAt v b w c) (entries len ls) 0 budget l tb steps) clear r) .run
 
     ran-is : Ran Held seen (needs (pairGraph v b w c) (raised fl)) (ruleAt v b w c) Blank (t .order) budget (slotAt tb)
     ran-is =

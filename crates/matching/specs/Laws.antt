@@ -4,3 +4,4 @@ pub mod Traversed
 pub mod Wells
 pub mod Exchange
 pub mod OneAnswer
+pub mod Running

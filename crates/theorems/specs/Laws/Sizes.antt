@@ -1,0 +1,102 @@
+-- What the rules make of values read in slots fits two words, whatever the table and the ads hold. Assumes nothing.
+use Prim.Native.Nat.{ℕ, zero, suc, _%_, _^_}
+use native.Mathlib.Nat.{mod-lt}
+use mathlib.Core.Bool.{Bool, true, false, cond}
+use mathlib.Core.List.{List, [], _∷_, map}
+use lib.Pow.{pow-pos}
+use lib.Dec.{eqb}
+use Rattle.syntax.specs.declared.Binary.the-variants.{Or, And, Equal, NotEqual, Is, Isnt, Less, LessOrEqual, Greater, GreaterOrEqual, Add, Subtract, Multiply, Divide, Remainder}
+use Rattle.syntax.specs.declared.Unary.the-variants.{Not, Plus, Minus}
+use Rattle.integers.specs.Integers.{width}
+use Rattle.reals.specs.Reals.{storedReal}
+use Rattle.reals.proofs.Literals.{stored-fits}
+use Rattle.values.specs.declared.Value.{Value}
+use Rattle.values.specs.declared.Value.the-variants.{Undefined, Error, Boolean, Integer, Real, String}
+use Rattle.values.specs.Values.{Sized}
+use Rattle.operators.proofs.Sizes.{binary-sized, unary-sized, conditional-sized}
+use Rattle.slots.specs.declared.Slot.{Slot}
+use Rattle.slots.specs.declared.Slot.the-variants.{Blank, Held}
+use Rattle.slots.specs.Packed.{slotAt, SizedSlot}
+use Rattle.slots.proofs.Sizes.{sized-at}
+use Rattle.nodes.specs.declared.Node.{Node}
+use Rattle.nodes.specs.declared.Node.the-variants.{Constant, Reference, OfOne, OfTwo, Conditional}
+use Rattle.nodes.specs.Nodes.{constantOf, nodeOf, applied, valueIn}
+use Rattle.links.specs.Laws.Soundness.{both-each}
+use Rattle.ad.specs.Stored.{kindAt, operandAt}
+use Rattle.evaluation.specs.Evaluation.{nodeFrom, nodeAt, ruleAt, seen}
+
+-- a literal's value fits
+abbrev SizedNode : Node → Type 0
+SizedNode (Constant v) = Sized v
+SizedNode Reference = Unit {0}
+SizedNode (OfOne op) = Unit {0}
+SizedNode (OfTwo op) = Unit {0}
+SizedNode Conditional = Unit {0}
+
+choose : (b : Bool) (u v : Value) → Sized u → Sized v → Sized (cond b u v)
+choose true u v p q = p
+choose false u v p q = q
+
+pick : (b : Bool) (m n : Node) → SizedNode m → SizedNode n → SizedNode (cond b m n)
+pick true m n p q = p
+pick false m n p q = q
+
+constant-sized : (s : Bool) (k a b : ℕ) → Sized (constantOf s k a b)
+constant-sized s k a b =
+    choose (eqb k 2) Error _ tt
+    (choose (eqb k 3) (Boolean _) _ tt
+    (choose (eqb k 4) (Integer (a % 2 ^ width)) _ (mod-lt a (pow-pos width))
+    (choose (eqb k 5) (Real (storedReal a b)) _ (stored-fits a b)
+    (choose (eqb k 6) (String s (a % 2 ^ 16) (b % 2 ^ 16)) Undefined (mod-lt a (pow-pos 16), mod-lt b (pow-pos 16)) tt))))
+
+node-sized : (s : Bool) (k a b : ℕ) → SizedNode (nodeOf s k a b)
+node-sized s k a b =
+    pick (eqb k 7) Reference _ tt
+    (pick (eqb k 8) Reference _ tt
+    (pick (eqb k 9) (OfOne Not) _ tt
+    (pick (eqb k 10) (OfOne Plus) _ tt
+    (pick (eqb k 11) (OfOne Minus) _ tt
+    (pick (eqb k 12) Conditional _ tt
+    (pick (eqb k 13) (OfTwo Or) _ tt
+    (pick (eqb k 14) (OfTwo And) _ tt
+    (pick (eqb k 15) (OfTwo Equal) _ tt
+    (pick (eqb k 16) (OfTwo NotEqual) _ tt
+    (pick (eqb k 17) (OfTwo Is) _ tt
+    (pick (eqb k 18) (OfTwo Isnt) _ tt
+    (pick (eqb k 19) (OfTwo Less) _ tt
+    (pick (eqb k 20) (OfTwo LessOrEqual) _ tt
+    (pick (eqb k 21) (OfTwo Greater) _ tt
+    (pick (eqb k 22) (OfTwo GreaterOrEqual) _ tt
+    (pick (eqb k 23) (OfTwo Add) _ tt
+    (pick (eqb k 24) (OfTwo Subtract) _ tt
+    (pick (eqb k 25) (OfTwo Multiply) _ tt
+    (pick (eqb k 26) (OfTwo Divide) _ tt
+    (pick (eqb k 27) (OfTwo Remainder) (Constant (constantOf s k a b)) tt (constant-sized s k a b)))))))))))))))))))))
+
+applied-sized : (first second : List ℕ) (n : Node) (a b c : Value) → SizedNode n → Sized a → Sized b → Sized c → Sized (applied first second n a b c)
+applied-sized first second (Constant v) a b c h p q r = h
+applied-sized first second Reference a b c h p q r = p
+applied-sized first second (OfOne op) a b c h p q r = unary-sized op a p
+applied-sized first second (OfTwo op) a b c h p q r = binary-sized first second op a b p
+applied-sized first second Conditional a b c h p q r = conditional-sized a b c q r
+
+-- ---- what a step reads
+
+seen-sized : (s : Slot) → SizedSlot s → Sized (seen s)
+seen-sized Blank h = tt
+seen-sized (Held v) h = h
+
+value-sized : (t l : List ℕ) (i : ℕ) → Sized (valueIn (map (λ y. seen (slotAt t y)) l) i)
+unfolding valueIn
+value-sized t [] i = tt
+value-sized t (y ∷ l) zero = seen-sized (slotAt t y) (sized-at t y)
+value-sized t (y ∷ l) (suc i) = value-sized t l i
+
+at-sized : (v w : List ℕ) (x : ℕ) → SizedNode (nodeAt v w x)
+at-sized v w =
+    both-each (λ x n. SizedNode n) (nodeFrom false v) (nodeFrom true w) (λ x h. node-sized false (kindAt v x) (operandAt v x 0) (operandAt v x 1))
+    (λ x. node-sized true (kindAt w x) (operandAt w x 0) (operandAt w x 1))
+
+pub rule-sized : (v b w c t l : List ℕ) (x : ℕ) → Sized (ruleAt v b w c x (map (λ y. seen (slotAt t y)) l))
+unfolding ruleAt
+rule-sized v b w c t l x = applied-sized b c (nodeAt v w x) _ _ _ (at-sized v w x) (value-sized t l 0) (value-sized t l 1) (value-sized t l 2)
