@@ -3,6 +3,7 @@ mod rule;
 
 use graph::Place;
 use links::Counts;
+use links::Roots;
 use marks::Position;
 ghost use mathlib.Core.Path.{_≡_};
 ghost use mathlib.Core.Bool.{cond};
@@ -10,7 +11,7 @@ ghost use Prim.Native.Nat.{_+_, _<_, _≤_};
 ghost use lib.ListN.{length, replicate};
 ghost use lib.Dec.{ltb};
 ghost use Rattle.graph.specs.declared.Place.the-variants.{Resolving, Between};
-ghost use Rattle.links.specs.Pair.{pairGraph, Measured};
+ghost use Rattle.links.specs.Pair.{pairGraph, Measured, RootMarks, Fingerprints};
 ghost use Rattle.marks.specs.Memory.{markWords};
 ghost use Rattle.dependency.specs.Traversal.{lookupOf, endedAt, Ready, Traversed};
 
@@ -36,10 +37,17 @@ pub fn resolved(target: &[usize], flag: &[usize], x: usize) -> Lookup
     Lookup::Found(t - 1)
 }
 
-// How many transitions the traversal took, and how long the list is.
+// How many transitions the traversal took, how long the list is, and where it began.
 pub struct Traversal {
     pub count: usize,
     pub length: usize,
+    pub roots: Roots,
+}
+
+// How many transitions a run of them took, and how long the list is.
+struct Taken {
+    count: usize,
+    length: usize,
 }
 
 // Where the traversal of n nodes begins, with an empty list.
@@ -80,13 +88,14 @@ fn run(
     w: &[u64],
     c: &[u8],
     q: Counts,
+    prints: &[u32],
     roots: &[usize],
     target: &mut [usize],
     marks: &mut [u16],
     flag: &mut [usize],
     list: &mut [u64],
-) -> Traversal
-    requires ads { ⌜ Measured (now v) (p .nodes) (p .definitions) × Measured (now w) (q .nodes) (q .definitions) × (now roots ≡ pairGraph (now v) (now b) (now w) (now c) .roots) ⌝ }
+) -> Taken
+    requires ads { ⌜ Measured (now v) (p .nodes) (p .definitions) × Measured (now w) (q .nodes) (q .definitions) × (now roots ≡ pairGraph (now v) (now b) (now w) (now c) .roots) × Fingerprints (now v) (now b) (now w) (now c) (now prints) ⌝ }
     requires ready { ⌜ Ready (now v) (now w) (now target) (now flag) (now list) × (now marks ≡ replicate markWords 0) ⌝ }
     ensures { λ r. ⌜ Traversed (pairGraph (now (v .entry)) (now (b .entry)) (now (w .entry)) (now (c .entry))) (r .count) (r .length) (now (target .exit)) (now (flag .exit)) (now (list .exit)) ⌝ }
 {
@@ -96,12 +105,26 @@ fn run(
     loop {
         let at = s.place;
         if ended(at, n) {
-            return Traversal {
+            return Taken {
                 count: count,
                 length: s.len,
             };
         }
-        s = rule::transition(v, b, p, w, c, q, roots, s, target, marks, flag, list);
+        s = rule::transition(
+            v,
+            b,
+            p,
+            w,
+            c,
+            q,
+            prints,
+            roots,
+            s,
+            target,
+            marks,
+            flag,
+            list,
+        );
         count += 1;
     }
 }
@@ -119,12 +142,34 @@ pub fn traverse(
 ) -> Traversal
     requires { ⌜ Ready (now v) (now w) (now target) (now flag) (now list) ⌝ }
     ensures { λ r. ⌜ Traversed (pairGraph (now (v .entry)) (now (b .entry)) (now (w .entry)) (now (c .entry))) (r .count) (r .length) (now (target .exit)) (now (flag .exit)) (now (list .exit)) ⌝ }
+    ensures roots { λ r. ⌜ RootMarks (now (v .entry)) (now (b .entry)) (now (w .entry)) (now (c .entry)) (r .roots .«first_requirements») (r .roots .«second_requirements») (r .roots .«first_rank») (r .roots .«second_rank») ⌝ }
 {
     let p = links::measure(v);
     let q = links::measure(w);
+    let mut prints = [0u32; 512];
+    links::fingerprints(v, b, p, w, c, q, &mut prints);
+    let r = links::find_roots(v, b, p, w, c, q, &prints);
     let mut room = [0usize; 4];
-    let n = links::find_roots(v, b, p, w, c, q, &mut room);
+    let n = links::list_roots(r, &mut room);
     let roots = &room[..n];
     let mut marks = [0u16; 12288];
-    run(v, b, p, w, c, q, roots, target, &mut marks, flag, list)
+    let t = run(
+        v,
+        b,
+        p,
+        w,
+        c,
+        q,
+        &prints,
+        roots,
+        target,
+        &mut marks,
+        flag,
+        list,
+    );
+    Traversal {
+        count: t.count,
+        length: t.length,
+        roots: r,
+    }
 }

@@ -9,7 +9,7 @@ ghost use lib.ListN.{length, getD};
 ghost use Rattle.graph.specs.Transition.{transition};
 ghost use Rattle.graph.specs.declared.Place.the-variants.{Resolving, Starting, Searching, Closing, Between, Inside};
 ghost use Rattle.ad.specs.Stored.{nodeCount};
-ghost use Rattle.links.specs.Pair.{pairGraph, Formed, Measured, Stands};
+ghost use Rattle.links.specs.Pair.{pairGraph, Formed, Measured, Stands, Fingerprints};
 ghost use Rattle.marks.specs.Memory.{view, markWords, Flagged, Roomy, Grows};
 ghost use Rattle.dependency.specs.Traversal.{PlaceFits, FlaggedFrom};
 
@@ -21,17 +21,19 @@ fn resolving(
     w: &[u64],
     c: &[u8],
     q: Counts,
+    prints: &[u32],
     i: usize,
     len: usize,
     target: &mut [usize],
 ) -> Position
-    requires { ⌜ Measured (now v) (p .nodes) (p .definitions) × Measured (now w) (q .nodes) (q .definitions) × (i < nodeCount (now v) + nodeCount (now w)) × (2048 ≤ length (now target)) ⌝ }
+    requires ads { ⌜ Measured (now v) (p .nodes) (p .definitions) × Measured (now w) (q .nodes) (q .definitions) × Fingerprints (now v) (now b) (now w) (now c) (now prints) ⌝ }
+    requires room { ⌜ (i < nodeCount (now v) + nodeCount (now w)) × (2048 ≤ length (now target)) ⌝ }
     ensures { λ r. ⌜ ((ma fl ls : List ℕ) → view (r .place) (r .len) (now (target .exit)) ma fl ls ≡ transition (pairGraph (now (v .entry)) (now (b .entry)) (now (w .entry)) (now (c .entry))) (view (Resolving i) len (now (target .entry)) ma fl ls)) ⌝ }
     ensures kept { λ r. ⌜ r .len ≡ len ⌝ }
 {
     let n = p.nodes + q.nodes;
     let x = links::node_at(p.nodes, i);
-    let f = links::found_at(v, b, p.definitions, w, c, q.definitions, x);
+    let f = links::found_at(v, b, p.definitions, w, c, q.definitions, x, prints);
     marks::resolve(i, n, x, f, len, target)
 }
 
@@ -130,6 +132,7 @@ pub fn transition(
     w: &[u64],
     c: &[u8],
     q: Counts,
+    prints: &[u32],
     roots: &[usize],
     s: Position,
     target: &mut [usize],
@@ -137,7 +140,7 @@ pub fn transition(
     flag: &mut [usize],
     list: &mut [u64],
 ) -> Position
-    requires ads { ⌜ Measured (now v) (p .nodes) (p .definitions) × Measured (now w) (q .nodes) (q .definitions) × (now roots ≡ pairGraph (now v) (now b) (now w) (now c) .roots) ⌝ }
+    requires ads { ⌜ Measured (now v) (p .nodes) (p .definitions) × Measured (now w) (q .nodes) (q .definitions) × (now roots ≡ pairGraph (now v) (now b) (now w) (now c) .roots) × Fingerprints (now v) (now b) (now w) (now c) (now prints) ⌝ }
     requires room { ⌜ Roomy (now target) (now marks) (now flag) (now list) × PlaceFits (now v) (now w) (length (now roots)) (s .len) (now list) (s .place) ⌝ }
     ensures { λ r. ⌜ view (r .place) (r .len) (now (target .exit)) (now (marks .exit)) (now (flag .exit)) (now (list .exit)) ≡ transition (pairGraph (now (v .entry)) (now (b .entry)) (now (w .entry)) (now (c .entry))) (view (s .place) (s .len) (now (target .entry)) (now (marks .entry)) (now (flag .entry)) (now (list .entry))) ⌝ }
     ensures room { λ r. ⌜ Grows (s .len) (r .len) (now (list .entry)) (now (list .exit)) ⌝ }
@@ -146,7 +149,7 @@ pub fn transition(
     let place = s.place;
     let len = s.len;
     match place {
-        Place::Resolving(i) => resolving(v, b, p, w, c, q, i, len, target),
+        Place::Resolving(i) => resolving(v, b, p, w, c, q, prints, i, len, target),
         Place::Starting(k) => starting(v, p, w, q, k, len, marks),
         Place::Searching(k, x, top, high, low) => {
             searching(v, p, w, q, k, x, top, high, low, len, target, marks, flag)

@@ -1,18 +1,24 @@
 -- Each way through the functions that read a stored ad. Assumes nothing.
-use mathlib.Core.Path.{_≡_, refl, sym, ap, _∙_}
+use mathlib.Core.Path.{_≡_, refl, sym, ap, _∙_, subst}
 use mathlib.Core.Logic.{_≢_}
 use mathlib.Core.Bool.{Bool, true, false, cond}
 use mathlib.Core.List.{List, [], _∷_, map}
 use Prim.Native.Nat.{ℕ, suc, _+_, _-_, _≤_, _<_}
 use native.Mathlib.Numerals.{add-one}
 use native.Mathlib.Omega.{arith}
+use native.Mathlib.Decide.{ℕ-discrete}
+use lib.ListN.{length, getD, set, length-set}
+use lib.Seq.{getD-set-same, getD-set-other}
 use lib.Dec.{eqb}
 use Rattle.text.specs.Strings.{sameName}
 use Rattle.syntax.specs.Bounds.{maxNodes, maxDefinitions}
 use Rattle.graph.specs.Laws.Members.{eqb-yes, eqb-no, ltb-yes, ltb-no}
 use Rattle.graph.specs.Transition.{marked}
 use Rattle.ad.specs.Stored.{leading, kindAt, lengthAt, offsetAt, rootAt, bytesAt, nodeCount, definitionCount, arity, isReference, findFrom, find}
-use Rattle.links.specs.Pair.{numbered, Formed}
+use Rattle.names.specs.Fingerprint.{fingerprintOf}
+use Rattle.names.specs.Laws.Matching.{other-fingerprint}
+use Rattle.links.specs.Pair.{numbered, printAt, Formed, Fingerprints}
+use Rattle.links.specs.Filling.{Filled}
 use Rattle.links.specs.Laws.Counting.{leading-more, leading-stop, nodes-few, definitions-few}
 
 -- ---- kinds
@@ -91,6 +97,71 @@ module _ (w : List ℕ) where
   pub definitions-are : {i : ℕ} → i ≡ leading (lengthAt w) 0 maxDefinitions → i ≡ definitionCount w
   unfolding definitionCount
   definitions-are e = e
+
+-- ---- fingerprints
+
+pub print-second : (second : Bool) (j : ℕ) → second ≡ true → maxDefinitions + j ≡ printAt second j
+print-second second j e = rw e refl
+
+pub print-first : (second : Bool) (j : ℕ) → second ≡ false → j ≡ printAt second j
+print-first second j e = rw e refl
+
+pub filled-none : (second : Bool) (w b l : List ℕ) → Filled second w b 0 l l
+filled-none second w b l = record { filled = λ j h. absurd (none j h); kept = λ i h. refl }
+  where
+    none : (j : ℕ) → j < 0 → ⊥
+    none j h = omega arith
+
+pub prints-apart : (second : Bool) (i j : ℕ) → i ≢ j → printAt second i ≢ printAt second j
+prints-apart true i j n e = n (let q : i ≡ j = omega arith in q)
+prints-apart false i j n e = n e
+
+-- one more definition has its fingerprint
+pub filled-next : {second : Bool} {w b l₀ l : List ℕ} {j at a : ℕ} → Filled second w b j l₀ l → at ≡ printAt second j → at < length l →
+    a ≡ fingerprintOf (bytesAt b (offsetAt w j) (lengthAt w j)) → Filled second w b (j + 1) l₀ (set l at a)
+filled-next {second} {w} {b} {l₀} {l} {j} {at} {a} f e h q = record { filled = λ i k. one i k (ℕ-discrete i j); kept = λ i k. keep i k }
+  where
+    one : (i : ℕ) → i < j + 1 → Dec (i ≡ j) → getD (set l at a) (printAt second i) 0 ≡ fingerprintOf (bytesAt b (offsetAt w i) (lengthAt w i))
+    one i k (yes d) = rw (d, ← e) (getD-set-same l at a 0 h ∙ q)
+    one i k (no n) = getD-set-other l at (printAt second i) a 0 (λ z. prints-apart second i j n (z ∙ e)) ∙ f .filled i (omega arith)
+
+    keep : (i : ℕ) → ((m : ℕ) → m < j + 1 → i ≢ printAt second m) → getD (set l at a) i 0 ≡ getD l₀ i 0
+    keep i k = getD-set-other l at i a 0 (λ z. k j (omega arith) (z ∙ e)) ∙ f .kept i (λ m r. k m (omega arith))
+
+-- the loop over an ad's definitions: the first j have their fingerprints
+pub record Filling (second : Bool) (w b : List ℕ) (d : ℕ) (l₀ l : List ℕ) (j : ℕ) : Type 0 where
+  pub most : j ≤ d
+  pub long : length l ≡ length l₀
+  pub done : Filled second w b j l₀ l
+
+pub filling-first : (second : Bool) (w b : List ℕ) (d : ℕ) {l : List ℕ} → Filling second w b d l l 0
+filling-first second w b d {l} = record { most = omega arith; long = refl; done = filled-none second w b l }
+
+module _ {second : Bool} {w b : List ℕ} {d : ℕ} {l₀ l : List ℕ} {j : ℕ} (f : Filling second w b d l₀ l j) where
+  pub filling-next : {at a : ℕ} → j < d → at ≡ printAt second j → at < length l → a ≡ fingerprintOf (bytesAt b (offsetAt w j) (lengthAt w j)) →
+      Filling second w b d l₀ (set l at a) (j + 1)
+  filling-next {at} {a} h e k q = record { most = omega arith; long = length-set l at a ∙ f .long; done = filled-next (f .done) e k q }
+
+  pub filling-end : d ≤ j → Filled second w b d l₀ l
+  filling-end h = subst (λ (u : ℕ). Filled second w b u l₀ l) (let m = f .most in let q : j ≡ d = omega arith in q) (f .done)
+
+-- the fingerprints of both ads
+pub prints-both : {v b w c l₀ l₁ l₂ : List ℕ} {d e : ℕ} → d ≡ definitionCount v → e ≡ definitionCount w → d ≤ maxDefinitions → maxDefinitions + maxDefinitions ≤ length l₂ →
+    Filled false v b d l₀ l₁ → Filled true w c e l₁ l₂ → Fingerprints v b w c l₂
+prints-both {e = e} p q few r f g = record {
+  first-printed = λ j h. g .kept j (λ m k z. apart j m (omega arith) z) ∙ f .filled j (omega arith);
+  second-printed = λ j h. g .filled j (omega arith);
+  prints-room = r;
+}
+  where
+    apart : (j m : ℕ) → j < maxDefinitions → j ≢ maxDefinitions + m
+    apart j m h z = omega arith
+
+pub named-part : (b : List ℕ) {x y o n r : ℕ} {l : List ℕ} → r ≡ fingerprintOf l → l ≡ bytesAt b x y → x ≡ o → y ≡ n → r ≡ fingerprintOf (bytesAt b o n)
+named-part b e q p s = e ∙ ap fingerprintOf (q ∙ (λ i. bytesAt b (p i) (s i)))
+
+pub named-not : (x y : List ℕ) {a b : ℕ} → a ≡ fingerprintOf x → b ≡ fingerprintOf y → a ≢ b → false ≡ sameName x y
+named-not x y p q n = sym (other-fingerprint x y (λ z. n (p ∙ z ∙ sym q)))
 
 -- ---- a name is looked up
 

@@ -1,3 +1,4 @@
 pub mod Pair
+pub mod Filling
 pub mod Laws
 pub mod Examples

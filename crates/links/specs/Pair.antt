@@ -4,17 +4,19 @@
 use mathlib.Core.Path.{_≡_}
 use mathlib.Core.Bool.{Bool, true, false, cond, not, _&&_}
 use mathlib.Core.List.{List, [], _∷_, _++_, map}
-use Prim.Native.Nat.{ℕ, _+_, _-_, _≤_, _<_}
-use lib.ListN.{length}
+use Prim.Native.Nat.{ℕ, zero, suc, _+_, _-_, _≤_, _<_}
+use lib.ListN.{length, getD}
 use lib.Dec.{ltb}
 use Rattle.text.specs.Bytes.{bytes}
 use Rattle.syntax.specs.Bounds.{maxNodes, maxDefinitions}
 use Rattle.text.specs.Strings.{sameName}
+use Rattle.names.specs.Fingerprint.{fingerprintOf}
 use Rattle.syntax.specs.Tree.{Ad, size, nodes}
 use Rattle.ad.specs.Layout.{Named, adWords, storedWords, storedBytes}
 use Rattle.graph.specs.Members.{Each}
 use Rattle.graph.specs.Graph.{Graph}
-use Rattle.ad.specs.Stored.{kindAt, nodeCount, definitionCount, isOwn, isOther, isReference, operands, nameAt, rootAt, find}
+use Rattle.graph.specs.Transition.{marked}
+use Rattle.ad.specs.Stored.{kindAt, nodeCount, definitionCount, offsetAt, lengthAt, bytesAt, isOwn, isOther, isReference, operands, nameAt, rootAt, find}
 
 -- A link as it is said from its own side: whether it goes to the other ad, and to which node there: for '`name` finds its
 -- definition in its own ad, `other.name` in the other'.
@@ -104,6 +106,34 @@ pub record Measured (w : List ℕ) (n d : ℕ) : Type 0 where
 -- x is a node of the pair: 'a side and a node'
 abbrev pub Stands : (v w : List ℕ) → ℕ → Type 0
 Stands v w x = both (λ i. ltb i (nodeCount v)) (λ i. ltb i (nodeCount w)) x ≡ true
+
+-- ---- what is found before the traversal
+
+-- the numbers that a mark names: none, or one
+abbrev pub unmarked : ℕ → List ℕ
+unmarked zero = []
+unmarked (suc y) = y ∷ []
+
+-- the roots of the four expressions that are entered, as marks: one more than a node's number, 0 where there is none
+pub record RootMarks (v b w c : List ℕ) (first-requirements second-requirements first-rank second-rank : ℕ) : Type 0 where
+  pub first-required : first-requirements ≡ marked (rootsOf false v b requirements)
+  pub second-required : second-requirements ≡ marked (rootsOf true w c requirements)
+  pub first-ranked : first-rank ≡ marked (rootsOf false v b rank)
+  pub second-ranked : second-rank ≡ marked (rootsOf true w c rank)
+
+-- where the fingerprint of definition j of the first ad, or of the second, is kept
+abbrev pub printAt : Bool → ℕ → ℕ
+printAt second j = cond second (maxDefinitions + j) j
+
+-- the fingerprints of the names of an ad's definitions
+abbrev pub Printed : Bool → (w b prints : List ℕ) → Type 0
+Printed second w b prints = (j : ℕ) → j < definitionCount w → getD prints (printAt second j) 0 ≡ fingerprintOf (bytesAt b (offsetAt w j) (lengthAt w j))
+
+-- the fingerprints of both ads' names, in their room
+pub record Fingerprints (v b w c prints : List ℕ) : Type 0 where
+  pub first-printed : Printed false v b prints
+  pub second-printed : Printed true w c prints
+  pub prints-room : maxDefinitions + maxDefinitions ≤ length prints
 
 -- the memory w and b holds the ad a, which is within the bounds: for 'reading some text .. would leave exactly this content' and
 -- '256 definitions; 1,024 nodes'

@@ -1,5 +1,6 @@
 // The graph of two stored ads: its nodes, links and roots by their numbers. v and b are the words and bytes of the first ad, w and
 // c those of the second.
+mod lookup;
 mod stored;
 
 ghost use mathlib.Core.Path.{_≡_};
@@ -10,7 +11,7 @@ ghost use lib.ListN.{length, getD, take};
 ghost use lib.Dec.{ltb};
 ghost use Rattle.graph.specs.Transition.{led, needed, marked};
 ghost use Rattle.ad.specs.Stored.{kindAt, operandAt, nodeCount, isReference, find};
-ghost use Rattle.links.specs.Pair.{numbered, linked, linksFrom, both, rootsOf, pairGraph, Formed, Measured, Stands};
+ghost use Rattle.links.specs.Pair.{linked, linksFrom, both, pairGraph, unmarked, Formed, Measured, Stands, RootMarks, Printed, Fingerprints};
 ghost use Rattle.graph.specs.Members.{numbers, raised};
 
 const NODES: usize = 1024;
@@ -141,65 +142,71 @@ fn found_from(
     e: usize,
     i: usize,
     second: bool,
+    prints: &[u32],
 ) -> usize
     requires own { ⌜ Measured (now words) (nodeCount (now words)) d × Measured (now others) (nodeCount (now others)) e × (i < nodeCount (now words)) ⌝ }
+    requires prints { ⌜ Printed second (now words) (now bytes) (now prints) × Printed (not second) (now others) (now names) (now prints) × (512 ≤ length (now prints)) ⌝ }
     ensures { λ r. ⌜ r ≡ cond (isReference (kindAt (now (words .entry)) i)) (marked (map (linked second) (linksFrom (now (words .entry)) (now (bytes .entry)) (now (others .entry)) (now (names .entry)) i))) 0 ⌝ }
 {
     let kind = ad::kind(words, i);
     if kind == 7 {
         let name = stored::name(words, bytes, i);
-        return stored::find_name(words, bytes, d, name, second);
+        return lookup::find_name(words, bytes, d, name, second, prints);
     }
     if kind == 8 {
         let name = stored::name(words, bytes, i);
         let far = opposite(second);
-        return stored::find_name(others, names, e, name, far);
+        return lookup::find_name(others, names, e, name, far, prints);
     }
     0
 }
 
 // What is to be recorded of the node x.
-pub fn found_at(v: &[u64], b: &[u8], d: usize, w: &[u64], c: &[u8], e: usize, x: usize) -> usize
-    requires { ⌜ Measured (now v) (nodeCount (now v)) d × Measured (now w) (nodeCount (now w)) e × Stands (now v) (now w) x ⌝ }
+pub fn found_at(
+    v: &[u64],
+    b: &[u8],
+    d: usize,
+    w: &[u64],
+    c: &[u8],
+    e: usize,
+    x: usize,
+    prints: &[u32],
+) -> usize
+    requires ads { ⌜ Measured (now v) (nodeCount (now v)) d × Measured (now w) (nodeCount (now w)) e × Stands (now v) (now w) x ⌝ }
+    requires prints { ⌜ Fingerprints (now v) (now b) (now w) (now c) (now prints) ⌝ }
     ensures { λ r. ⌜ r ≡ cond (pairGraph (now (v .entry)) (now (b .entry)) (now (w .entry)) (now (c .entry)) .ref x) (marked (pairGraph (now (v .entry)) (now (b .entry)) (now (w .entry)) (now (c .entry)) .links x)) 0 ⌝ }
 {
     if x < NODES {
-        return found_from(v, b, d, w, c, e, x, false);
+        return found_from(v, b, d, w, c, e, x, false, prints);
     }
-    found_from(w, c, e, v, b, d, x - NODES, true)
+    found_from(w, c, e, v, b, d, x - NODES, true, prints)
 }
 
-// Where a name's definition is in an ad of d definitions, `second` or the first: one more than its root's number, and 0 for none.
-pub fn root_named(words: &[u64], bytes: &[u8], d: usize, name: &[u8], second: bool) -> usize
-    requires { ⌜ Measured (now words) (nodeCount (now words)) d ⌝ }
-    ensures { λ r. ⌜ r ≡ marked (rootsOf second (now (words .entry)) (now (bytes .entry)) (now (name .entry))) ⌝ }
+// The fingerprints of the names of all definitions.
+pub fn fingerprints(
+    v: &[u64],
+    b: &[u8],
+    p: Counts,
+    w: &[u64],
+    c: &[u8],
+    q: Counts,
+    prints: &mut [u32],
+)
+    requires { ⌜ Measured (now v) (p .nodes) (p .definitions) × Measured (now w) (q .nodes) (q .definitions) × (512 ≤ length (now prints)) ⌝ }
+    ensures { λ _. ⌜ Fingerprints (now (v .entry)) (now (b .entry)) (now (w .entry)) (now (c .entry)) (now (prints .exit)) ⌝ }
 {
-    stored::find_name(words, bytes, d, name, second)
+    lookup::fill(v, b, p.definitions, false, prints);
+    lookup::fill(w, c, q.definitions, true, prints);
 }
 
-// The root of a name's definition, if there is one, becomes the n-th of the roots.
-fn add_root(
-    words: &[u64],
-    bytes: &[u8],
-    d: usize,
-    name: &[u8],
-    second: bool,
-    roots: &mut [usize],
-    n: usize,
-) -> usize
-    requires { ⌜ Measured (now words) (nodeCount (now words)) d × (n < length (now roots)) ⌝ }
-    ensures { λ r. ⌜ take r (now (roots .exit)) ≡ take n (now (roots .entry)) ++ map (numbered second) (find (now (words .entry)) (now (bytes .entry)) (now (name .entry))) ⌝ }
-    ensures few { λ r. ⌜ r ≤ n + 1 ⌝ }
-{
-    let f = stored::find_name(words, bytes, d, name, second);
-    if f == 0 {
-        return n;
-    }
-    roots[n] = f - 1;
-    n + 1
+// The roots of the first ad's Requirements, the second's, the first's Rank, the second's: each one more than its number, 0 for none.
+pub struct Roots {
+    pub first_requirements: usize,
+    pub second_requirements: usize,
+    pub first_rank: usize,
+    pub second_rank: usize,
 }
 
-// The first ad's Requirements, the second's, the first's Rank, the second's, those that exist.
 pub fn find_roots(
     v: &[u64],
     b: &[u8],
@@ -207,16 +214,47 @@ pub fn find_roots(
     w: &[u64],
     c: &[u8],
     q: Counts,
-    roots: &mut [usize],
-) -> usize
-    requires { ⌜ Measured (now v) (p .nodes) (p .definitions) × Measured (now w) (q .nodes) (q .definitions) × (4 ≤ length (now roots)) ⌝ }
-    ensures { λ r. ⌜ take r (now (roots .exit)) ≡ pairGraph (now (v .entry)) (now (b .entry)) (now (w .entry)) (now (c .entry)) .roots ⌝ }
-    ensures few { λ r. ⌜ r ≤ 4 ⌝ }
+    prints: &[u32],
+) -> Roots
+    requires ads { ⌜ Measured (now v) (p .nodes) (p .definitions) × Measured (now w) (q .nodes) (q .definitions) ⌝ }
+    requires prints { ⌜ Fingerprints (now v) (now b) (now w) (now c) (now prints) ⌝ }
+    ensures { λ r. ⌜ RootMarks (now (v .entry)) (now (b .entry)) (now (w .entry)) (now (c .entry)) (r .«first_requirements») (r .«second_requirements») (r .«first_rank») (r .«second_rank») ⌝ }
 {
     let d = p.definitions;
     let e = q.definitions;
-    let i = add_root(v, b, d, b"Requirements", false, roots, 0);
-    let j = add_root(w, c, e, b"Requirements", true, roots, i);
-    let k = add_root(v, b, d, b"Rank", false, roots, j);
-    add_root(w, c, e, b"Rank", true, roots, k)
+    let i = lookup::find_name(v, b, d, b"Requirements", false, prints);
+    let j = lookup::find_name(w, c, e, b"Requirements", true, prints);
+    let k = lookup::find_name(v, b, d, b"Rank", false, prints);
+    let l = lookup::find_name(w, c, e, b"Rank", true, prints);
+    Roots {
+        first_requirements: i,
+        second_requirements: j,
+        first_rank: k,
+        second_rank: l,
+    }
+}
+
+// The root that a mark names, if it names one, becomes the n-th of the roots.
+fn add_root(mark: usize, roots: &mut [usize], n: usize) -> usize
+    requires { ⌜ n < length (now roots) ⌝ }
+    ensures { λ r. ⌜ take r (now (roots .exit)) ≡ take n (now (roots .entry)) ++ unmarked mark ⌝ }
+    ensures few { λ r. ⌜ r ≤ n + 1 ⌝ }
+{
+    if mark == 0 {
+        return n;
+    }
+    roots[n] = mark - 1;
+    n + 1
+}
+
+// Those that exist, in order.
+pub fn list_roots(r: Roots, roots: &mut [usize]) -> usize
+    requires { ⌜ 4 ≤ length (now roots) ⌝ }
+    ensures { λ n. ⌜ take n (now (roots .exit)) ≡ unmarked (r .«first_requirements») ++ (unmarked (r .«second_requirements») ++ (unmarked (r .«first_rank») ++ unmarked (r .«second_rank»))) ⌝ }
+    ensures few { λ n. ⌜ n ≤ 4 ⌝ }
+{
+    let i = add_root(r.first_requirements, roots, 0);
+    let j = add_root(r.second_requirements, roots, i);
+    let k = add_root(r.first_rank, roots, j);
+    add_root(r.second_rank, roots, k)
 }

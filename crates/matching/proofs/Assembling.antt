@@ -11,7 +11,7 @@ use Rattle.graph.specs.Members.{_∈_, here, there, Each, numbers, raised}
 use Rattle.graph.specs.Laws.Members.{mem-nil, mem-left, mem-right, at-mem}
 use Rattle.graph.specs.Graph.{Graph, Sound, Node, Circular, Flags, needs, Entered}
 use Rattle.graph.specs.Laws.Traversal.{needs-links, needs-acyclic}
-use Rattle.links.specs.Pair.{pairGraph, rootsOf, requirements, rank, Formed, Stands}
+use Rattle.links.specs.Pair.{pairGraph, rootsOf, requirements, rank, Formed, Stands, RootMarks}
 use Rattle.links.specs.Laws.Soundness.{pair-sound}
 use Rattle.dependency.specs.Traversal.{Traversed}
 use Rattle.dependency.specs.Laws.Use.{clear-zeros}
@@ -26,10 +26,10 @@ use Rattle.valuation.specs.Laws.Values.{entered-in}
 use Rattle.valuation.specs.Laws.Transfer.{entered-part}
 use Rattle.valuation.specs.Laws.Runs.{run-ran}
 use Rattle.evaluation.specs.Evaluation.{ruleAt, seen, needed, entries, stepsWords, RunTo, AtRun}
-use Rattle.matching.specs.Matching.{isTrue, rankOf, Worth, Concluded, Match}
+use Rattle.matching.specs.Matching.{isTrue, rankOf, worthAt, Worth, Concluded, Match}
 use Rattle.matching.specs.Laws.Traversed.{entered-of, counted-of}
 use Rattle.matching.specs.Laws.Running.{run-from}
-use Rattle.matching.specs.Laws.Concluding.{worth-of, roots-first, roots-second, ranks-first, ranks-second}
+use Rattle.matching.specs.Laws.Concluding.{worth-of, worth-marked, roots-first, roots-second, ranks-first, ranks-second}
 use Rattle.matching.specs.declared.Outcome.{Outcome}
 use Rattle.matching.specs.declared.Outcome.the-variants.{Finished, Unfinished}
 
@@ -114,11 +114,19 @@ module _ (v b w c : List ℕ) {count len : ℕ} {ta fl ls : List ℕ} (f : Forme
     steps-are : steps ≡ min budget (length (t .order))
     steps-are = run-is .counts ∙ ap (λ (n : ℕ). min budget n) (let q : length (t .order) - 0 ≡ length (t .order) = omega arith in q)
 
+    -- the roots' marks give the four values
+    concluded : {p q i j : ℕ} → RootMarks v b w c p q i j → (n : ℕ) →
+        Finished (isTrue (worthAt tb p) && isTrue (worthAt tb q)) (rankOf (worthAt tb i)) (rankOf (worthAt tb j)) n count ≡
+        Finished (isTrue (held false v b requirements) && isTrue (held true w c requirements)) (rankOf (held false v b rank)) (rankOf (held true w c rank)) n count
+    concluded m n = λ t. Finished
+        (isTrue (worth-marked tb (rootsOf false v b requirements) (m .first-required) t) && isTrue (worth-marked tb (rootsOf true w c requirements) (m .second-required) t))
+        (rankOf (worth-marked tb (rootsOf false v b rank) (m .first-ranked) t)) (rankOf (worth-marked tb (rootsOf true w c rank) (m .second-ranked) t)) n count
+
     -- THE MATCH
-    pub match-of : {o : Outcome} → length ls ≡ 2048 → (steps < len → o ≡ Unfinished steps count) →
-        (len ≤ steps → o ≡ Finished (isTrue (held false v b requirements) && isTrue (held true w c requirements)) (rankOf (held false v b rank)) (rankOf (held true w c rank)) steps count) →
+    pub match-of : {o : Outcome} {p q i j : ℕ} → length ls ≡ 2048 → RootMarks v b w c p q i j → (steps < len → o ≡ Unfinished steps count) →
+        (len ≤ steps → o ≡ Finished (isTrue (worthAt tb p) && isTrue (worthAt tb q)) (rankOf (worthAt tb i)) (rankOf (worthAt tb j)) steps count) →
         Match v b w c budget tb ls o
-    match-of {o} h u e = record {
+    match-of {o} h m u e = record {
       circular = raised fl;
       flagged = t .circular;
       order = t .order;
@@ -141,7 +149,7 @@ module _ (v b w c : List ℕ) {count len : ℕ} {ta fl ls : List ℕ} (f : Forme
             second-required = worked k (rootsOf true w c requirements) (roots-second v b w c);
             first-ranked = worked k (rootsOf false v b rank) (ranks-first v b w c);
             second-ranked = worked k (rootsOf true w c rank) (ranks-second v b w c);
-            answers = e (omega arith) ∙ ap (λ (n : ℕ). Finished (isTrue (held false v b requirements) && isTrue (held true w c requirements)) (rankOf (held false v b rank)) (rankOf (held true w c rank)) n count) same;
+            answers = e (omega arith) ∙ concluded m steps ∙ ap (λ (n : ℕ). Finished (isTrue (held false v b requirements) && isTrue (held true w c requirements)) (rankOf (held false v b rank)) (rankOf (held true w c rank)) n count) same;
           };
       unfinished = λ k.
           let a = steps-are in

@@ -1,21 +1,16 @@
 // The match of two stored ads. v and b are the words and bytes of the first ad, w and c those of the second.
 ghost use mathlib.Core.Path.{_≡_};
 ghost use mathlib.Core.Bool.{false, true, cond, _&&_, _||_};
-ghost use mathlib.Core.List.{map};
 ghost use Prim.Native.Nat.{_-_, _^_, _≤_, _<_};
 ghost use lib.ListN.{length, replicate};
 ghost use lib.Dec.{ltb};
 ghost use Rattle.integers.specs.Integers.{width};
-ghost use Rattle.ad.specs.Stored.{nodeCount};
-ghost use Rattle.slots.specs.Packed.{slotAt};
 ghost use Rattle.values.specs.Values.{bytesAt};
-ghost use Rattle.links.specs.Pair.{rootsOf, requirements, rank, Formed, Measured};
+ghost use Rattle.links.specs.Pair.{Formed};
 ghost use Rattle.dependency.specs.Traversal.{Ready};
-ghost use Rattle.nodes.specs.Nodes.{valueIn};
-ghost use Rattle.evaluation.specs.Evaluation.{seen};
-ghost use Rattle.matching.specs.Matching.{isTrue, rankOf, Match, Well, Matched, shownAt};
+ghost use Rattle.matching.specs.Matching.{isTrue, rankOf, worthAt, Match, Well, Matched, shownAt};
 ghost use Rattle.matching.specs.declared.Outcome.the-variants.{Finished};
-use links::Counts;
+use links::Roots;
 use slots::Slot;
 use values::Value;
 use well_formed::Checked;
@@ -70,16 +65,14 @@ fn rank_of(v: Value) -> u32
     }
 }
 
-// The value that the table holds for a name's definition in an ad of d definitions; Undefined where there is none.
-fn worth(words: &[u64], bytes: &[u8], d: usize, name: &[u8], second: bool, table: &[u64]) -> Value
-    requires { ⌜ Measured (now words) (nodeCount (now words)) d ⌝ }
-    ensures { λ r. ⌜ r ≡ valueIn (map (λ y. seen (slotAt (now (table .entry)) y)) (rootsOf second (now (words .entry)) (now (bytes .entry)) (now (name .entry)))) 0 ⌝ }
+// The value that the table holds for a root, told by its mark; Undefined where there is none.
+fn worth(mark: usize, table: &[u64]) -> Value
+    ensures { λ r. ⌜ r ≡ worthAt (now (table .entry)) mark ⌝ }
 {
-    let f = links::root_named(words, bytes, d, name, second);
-    if f == 0 {
+    if mark == 0 {
         return Value::Undefined;
     }
-    evaluation::value_in(table, f - 1)
+    evaluation::value_in(table, mark - 1)
 }
 
 fn both(x: bool, y: bool) -> bool
@@ -91,25 +84,14 @@ fn both(x: bool, y: bool) -> bool
     false
 }
 
-// Both Requirements and both Ranks, from the table.
-fn conclude(
-    v: &[u64],
-    b: &[u8],
-    w: &[u64],
-    c: &[u8],
-    table: &[u64],
-    steps: usize,
-    count: usize,
-) -> Outcome
-    requires { ⌜ Formed (now v) × Formed (now w) ⌝ }
-    ensures { λ r. ⌜ r ≡ Finished (isTrue (valueIn (map (λ y. seen (slotAt (now (table .entry)) y)) (rootsOf false (now (v .entry)) (now (b .entry)) requirements)) 0) && isTrue (valueIn (map (λ y. seen (slotAt (now (table .entry)) y)) (rootsOf true (now (w .entry)) (now (c .entry)) requirements)) 0)) (rankOf (valueIn (map (λ y. seen (slotAt (now (table .entry)) y)) (rootsOf false (now (v .entry)) (now (b .entry)) rank)) 0)) (rankOf (valueIn (map (λ y. seen (slotAt (now (table .entry)) y)) (rootsOf true (now (w .entry)) (now (c .entry)) rank)) 0)) steps count ⌝ }
+// Both Requirements and both Ranks, from the table alone: it is lent no ad.
+fn conclude(roots: Roots, table: &[u64], steps: usize, count: usize) -> Outcome
+    ensures { λ r. ⌜ r ≡ Finished (isTrue (worthAt (now (table .entry)) (roots .«first_requirements»)) && isTrue (worthAt (now (table .entry)) (roots .«second_requirements»))) (rankOf (worthAt (now (table .entry)) (roots .«first_rank»))) (rankOf (worthAt (now (table .entry)) (roots .«second_rank»))) steps count ⌝ }
 {
-    let p = links::measure(v);
-    let q = links::measure(w);
-    let x = is_true(worth(v, b, p.definitions, b"Requirements", false, table));
-    let y = is_true(worth(w, c, q.definitions, b"Requirements", true, table));
-    let i = rank_of(worth(v, b, p.definitions, b"Rank", false, table));
-    let j = rank_of(worth(w, c, q.definitions, b"Rank", true, table));
+    let x = is_true(worth(roots.first_requirements, table));
+    let y = is_true(worth(roots.second_requirements, table));
+    let i = rank_of(worth(roots.first_rank, table));
+    let j = rank_of(worth(roots.second_rank, table));
     Outcome::Finished(both(x, y), i, j, steps, count)
 }
 
@@ -134,7 +116,8 @@ fn match_marked(
     if steps < t.length {
         return Outcome::Unfinished(steps, t.count);
     }
-    conclude(v, b, w, c, table, steps, t.count)
+    let roots = t.roots;
+    conclude(roots, table, steps, t.count)
 }
 
 // The match of two well-formed ads in a table of 2,048 slots and a list's room of 2,048 entries, whatever they hold.

@@ -10,20 +10,20 @@ use Rattle.dependency.proofs.run.Statement.{statement}
 use Rattle.dependency.proofs.run.Tie as tie
 
 abbrev Inv-loop : tie.InvT-loop
-Inv-loop v b p w c q roots target₀ marks₀ flag₀ list₀ n s₀ count₀ target marks flag list s count = Turn v b w c roots (p .nodes) (p .definitions) (q .nodes) (q .definitions) n count (s .place) (s .len) target₀ marks₀ flag₀ list₀ target marks flag list
+Inv-loop v b p w c q prints roots target₀ marks₀ flag₀ list₀ n s₀ count₀ target marks flag list s count = Turn v b w c roots (p .nodes) (p .definitions) (q .nodes) (q .definitions) n count (s .place) (s .len) target₀ marks₀ flag₀ list₀ target marks flag list
 
 abbrev μ-loop : tie.MeasureT-loop
-μ-loop v b p w c q roots target₀ marks₀ flag₀ list₀ n s₀ count₀ target marks flag list s count = 16 * pairGraph v b w c .size - count
+μ-loop v b p w c q prints roots target₀ marks₀ flag₀ list₀ n s₀ count₀ target marks flag list s count = 16 * pairGraph v b w c .size - count
 
 add-first-position : tie.Need-add-first-position Inv-loop μ-loop
 add-first-position c =
-    let s = c .before .before .before .before .before .before .before .before .before .before .before in
+    let s = c .before .before .before .before .before .before .before .before .before .before .before .before in
     let h = nodes-fit (s .pre .0 .0) in let k = nodes-fit (s .pre .0 .1) in search needs
 
 loop-holds : tie.Need-loop-holds Inv-loop μ-loop
 loop-holds c =
     let e-first-position = c .first-position in
-    let s = c .before .before .before .before .before .before .before .before .before .before .before .before in
+    let s = c .before .before .before .before .before .before .before .before .before .before .before .before .before in
     turn-first (now (s .args .b)) (now (s .args .c)) (s .pre .0 .0) (s .pre .0 .1) (s .pre .0 .2) (s .pre .1 .0) (s .pre .1 .1) refl (e-first-position .ensures .0) (e-first-position .ensures .1)
 
 same-length : tie.Need-same-length Inv-loop μ-loop
@@ -59,8 +59,8 @@ transition-requires c κs =
     let e-if1 = at-e-if1 .if1 in
     let e-ended = at-e-if1 .before .ended in
     let e-loop = at-e-if1 .before .before .loop in
-    let s = at-e-if1 .before .before .before .before .before .before .before .before .before .before .before .before .before .before .before in
-    ((s .pre .0 .0, s .pre .0 .1, s .pre .0 .2), (e-loop .inv .going .roomy, turn-fits (e-loop .inv) (e-ended .ensures) (e-if1 .left)))
+    let s = at-e-if1 .before .before .before .before .before .before .before .before .before .before .before .before .before .before .before .before in
+    ((s .pre .0 .0, s .pre .0 .1, s .pre .0 .2, s .pre .0 .3), (e-loop .inv .going .roomy, turn-fits (e-loop .inv) (e-ended .ensures) (e-if1 .left)))
 
 add-count : tie.Need-add-count Inv-loop μ-loop
 add-count c =
@@ -86,7 +86,7 @@ loop-again c =
     let e-if1 = at-e-if1 .if1 in
     let e-ended = at-e-if1 .before .ended in
     let e-loop = at-e-if1 .before .before .loop in
-    turn-next (e-loop .inv) (e-ended .ensures) (e-if1 .left) (e-transition .ensures) (e-transition .kept .1 .1 .1 .1 .1 .1 .1 .1 .0) (e-transition .kept .1 .1 .1 .1 .1 .1 .1 .1 .1 .0) (e-transition .kept .1 .1 .1 .1 .1 .1 .1 .1 .1 .1 .0) (e-transition .kept .1 .1 .1 .1 .1 .1 .1 .1 .1 .1 .1 .0)
+    turn-next (e-loop .inv) (e-ended .ensures) (e-if1 .left) (e-transition .ensures) (e-transition .kept .1 .1 .1 .1 .1 .1 .1 .1 .1 .0) (e-transition .kept .1 .1 .1 .1 .1 .1 .1 .1 .1 .1 .0) (e-transition .kept .1 .1 .1 .1 .1 .1 .1 .1 .1 .1 .1 .0) (e-transition .kept .1 .1 .1 .1 .1 .1 .1 .1 .1 .1 .1 .1 .0)
 
 pub run-spec : {M : Type 1} → statement M
 run-spec = tie.close (tie.spec

@@ -1,25 +1,38 @@
-use denote.Ref.{now}
 use Rattle.text.specs.Bytes.{bytes}
-use Rattle.links.specs.Laws.Numbering.{measured-self}
-use Rattle.links.specs.Laws.Roots.{roots-four}
 use borrow.Author.Needs.{needs}
 use Rattle.links.proofs.find_roots.Statement.{statement}
 use Rattle.links.proofs.find_roots.Tie as tie
 
-add-root-requires-2 : tie.Need-add-root-requires-2
-add-root-requires-2 c κs = let h = c .before .before .before .before .add-root .ensures .1 in let k = c .before .before .before .before .before .before .before .before .before .before .before .before .pre .2 in (measured-self (c .before .before .before .before .before .before .before .before .before .before .before .before .pre .1), search needs)
+find-name-requires : tie.Need-find-name-requires
+find-name-requires c κs =
+    let s = c .before .before .before .before .before .before in
+    (s .pre .0 .0 .formed, s .pre .0 .0 .definitions-are, s .pre .1 .first-printed, s .pre .1 .prints-room)
 
-add-root-requires-3 : tie.Need-add-root-requires-3
-add-root-requires-3 c κs = let h = c .before .before .before .before .before .before .before .before .before .add-root .ensures .1 in let j = c .before .before .before .before .add-root2 .ensures .1 in let k = c .before .before .before .before .before .before .before .before .before .before .before .before .before .before .before .before .before .pre .2 in (measured-self (c .before .before .before .before .before .before .before .before .before .before .before .before .before .before .before .before .before .pre .0), search needs)
+find-name-requires-2 : tie.Need-find-name-requires-2
+find-name-requires-2 c κs =
+    let s = c .before .before .before .before .before .before .before .before in
+    (s .pre .0 .1 .formed, s .pre .0 .1 .definitions-are, s .pre .1 .second-printed, s .pre .1 .prints-room)
 
-add-root-requires-4 : tie.Need-add-root-requires-4
-add-root-requires-4 c κs = let h = c .before .before .before .before .before .before .before .before .before .before .before .before .before .before .add-root .ensures .1 in let j = c .before .before .before .before .before .before .before .before .before .add-root2 .ensures .1 in let l = c .before .before .before .before .add-root3 .ensures .1 in let k = c .before .before .before .before .before .before .before .before .before .before .before .before .before .before .before .before .before .before .before .before .before .before .pre .2 in (measured-self (c .before .before .before .before .before .before .before .before .before .before .before .before .before .before .before .before .before .before .before .before .before .before .pre .1), search needs)
+find-name-requires-3 : tie.Need-find-name-requires-3
+find-name-requires-3 c κs =
+    let s = c .before .before .before .before .before .before .before .before .before .before in
+    (s .pre .0 .0 .formed, s .pre .0 .0 .definitions-are, s .pre .1 .first-printed, s .pre .1 .prints-room)
+
+find-name-requires-4 : tie.Need-find-name-requires-4
+find-name-requires-4 c κs =
+    let s = c .before .before .before .before .before .before .before .before .before .before .before .before in
+    (s .pre .0 .1 .formed, s .pre .0 .1 .definitions-are, s .pre .1 .second-printed, s .pre .1 .prints-room)
 
 returns : tie.Need-returns
 unfolding bytes
-returns c = let h = c .before .before .before .before .before .before .before .before .before .before .before .before .before .before .before .before .before .add-root .ensures .1 in let j = c .before .before .before .before .before .before .before .before .before .before .before .before .add-root2 .ensures .1 in let l = c .before .before .before .before .before .before .before .add-root3 .ensures .1 in let m = c .before .before .add-root4 .ensures .1 in (roots-four (now (c .before .before .before .before .before .before .before .before .before .before .before .before .before .before .before .before .before .before .before .before .before .before .before .before .before .args .v)) (now (c .before .before .before .before .before .before .before .before .before .before .before .before .before .before .before .before .before .before .before .before .before .before .before .before .before .args .b)) (now (c .before .before .before .before .before .before .before .before .before .before .before .before .before .before .before .before .before .before .before .before .before .before .before .before .before .args .w)) (now (c .before .before .before .before .before .before .before .before .before .before .before .before .before .before .before .before .before .before .before .before .before .before .before .before .before .args .c)) (c .before .before .before .before .before .before .before .before .before .before .before .before .before .before .before .before .before .add-root .ensures .0) (c .before .before .before .before .before .before .before .before .before .before .before .before .add-root2 .ensures .0) (c .before .before .before .before .before .before .before .add-root3 .ensures .0) (c .before .before .add-root4 .ensures .0), search needs)
+returns c =
+    let e-find-name4 = c .find-name4 in
+    let e-find-name3 = c .before .before .find-name3 in
+    let at-e-find-name2 = c .before .before .before .before in
+    let e-find-name2 = at-e-find-name2 .find-name2 in
+    let e-find-name = at-e-find-name2 .before .before .find-name in
+    record { first-required = e-find-name .ensures; second-required = e-find-name2 .ensures; first-ranked = e-find-name3 .ensures; second-ranked = e-find-name4 .ensures }
 
 pub find-roots-spec : {M : Type 1} → statement M
 find-roots-spec = tie.close (tie.spec
-    (λ c. search needs) (λ c κs. search needs) (λ c. search needs) add-root-requires-2 (λ c. search needs) add-root-requires-3 (λ c. search needs)
-    add-root-requires-4 (λ c. search needs) returns)
+    (λ c. search needs) find-name-requires (λ c. search needs) find-name-requires-2 (λ c. search needs) find-name-requires-3 (λ c. search needs) find-name-requires-4 returns)

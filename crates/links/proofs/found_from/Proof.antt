@@ -1,27 +1,66 @@
 use denote.Ref.{now}
+use mathlib.Core.Bool.{Bool}
+use mathlib.Core.Path.{sym, subst}
+use Rattle.links.specs.Pair.{Printed}
 use Rattle.links.specs.Laws.Numbering.{nodes-fit, found-own, found-other, found-none}
 use borrow.Author.Needs.{needs}
 use Rattle.links.proofs.found_from.Statement.{statement}
 use Rattle.links.proofs.found_from.Tie as tie
 
 kind-requires : tie.Need-kind-requires
-kind-requires c κs = let h = nodes-fit (c .before .before .before .before .pre .0) in let k = c .before .before .before .before .pre .2 in (search needs, c .before .before .before .before .pre .0 .formed .words-room)
+kind-requires c κs =
+    let s = c .before .before .before .before .before in
+    let h = nodes-fit (s .pre .0 .0) in let k = s .pre .0 .2 in (search needs, s .pre .0 .0 .formed .words-room)
 
 name-requires : tie.Need-name-requires
-name-requires c κs = let h = nodes-fit (c .before .before .before .before .before .before .pre .0) in let k = c .before .before .before .before .before .before .pre .2 in (search needs, c .before .before .before .before .before .before .pre .0 .formed .words-room)
+name-requires c κs =
+    let s = c .before .before .before .before .before .before .before in
+    let h = nodes-fit (s .pre .0 .0) in let k = s .pre .0 .2 in (search needs, s .pre .0 .0 .formed .words-room)
+
+find-name-requires : tie.Need-find-name-requires
+find-name-requires c κs =
+    let s = c .before .before .before .before .before .before .before .before in
+    (s .pre .0 .0 .formed, s .pre .0 .0 .definitions-are, s .pre .1 .0, s .pre .1 .2)
 
 returns : tie.Need-returns
-returns c = found-own (now (c .before .before .before .before .before .before .before .before .args .words)) (now (c .before .before .before .before .before .before .before .before .args .bytes)) (now (c .before .before .before .before .before .before .before .before .args .others)) (now (c .before .before .before .before .before .before .before .before .args .names)) (c .before .before .before .before .before .before .before .before .args .second) (c .before .before .before .before .before .before .before .before .args .i) (c .before .before .before .before .before .before .before .before .pre .2) (c .before .before .before .kind .ensures) (c .before .before .if1 .taken) (c .before .name .ensures) (c .find-name .ensures)
+returns c =
+    let e-find-name = c .find-name in
+    let e-name = c .before .name in
+    let e-if1 = c .before .before .if1 in
+    let e-kind = c .before .before .before .kind in
+    let s = c .before .before .before .before .before .before .before .before .before in
+    found-own (now (s .args .words)) (now (s .args .bytes)) (now (s .args .others)) (now (s .args .names)) (s .args .second) (s .args .i) (s .pre .0 .2) (e-kind .ensures) (e-if1 .taken) (e-name .ensures) (e-find-name .ensures)
 
 name-requires-2 : tie.Need-name-requires-2
-name-requires-2 c κs = let h = nodes-fit (c .before .before .before .before .before .before .before .pre .0) in let k = c .before .before .before .before .before .before .before .pre .2 in (search needs, c .before .before .before .before .before .before .before .pre .0 .formed .words-room)
+name-requires-2 c κs =
+    let s = c .before .before .before .before .before .before .before .before in
+    let h = nodes-fit (s .pre .0 .0) in let k = s .pre .0 .2 in (search needs, s .pre .0 .0 .formed .words-room)
+
+find-name-requires-2 : tie.Need-find-name-requires-2
+find-name-requires-2 c κs =
+    let e-opposite = c .opposite in
+    let s = c .before .before .before .before .before .before .before .before .before .before in
+    (s .pre .0 .1 .formed, s .pre .0 .1 .definitions-are, subst (λ (t : Bool). Printed t (now (s .args .others)) (now (s .args .names)) (now (s .args .prints))) (sym (e-opposite .ensures)) (s .pre .1 .1), s .pre .1 .2)
 
 returns-2 : tie.Need-returns-2
-returns-2 c = found-other (now (c .before .before .before .before .before .before .before .before .before .before .args .words)) (now (c .before .before .before .before .before .before .before .before .before .before .args .bytes)) (now (c .before .before .before .before .before .before .before .before .before .before .args .others)) (now (c .before .before .before .before .before .before .before .before .before .before .args .names)) (c .before .before .before .before .before .before .before .before .before .before .args .second) (c .before .before .before .before .before .before .before .before .before .before .args .i) (c .before .before .before .before .before .before .before .before .before .before .pre .2) (c .before .before .before .before .before .kind .ensures) (c .before .before .before .if2 .taken) (c .before .before .name2 .ensures) (c .before .opposite .ensures) (c .find-name2 .ensures)
+returns-2 c =
+    let e-find-name2 = c .find-name2 in
+    let e-opposite = c .before .opposite in
+    let e-name2 = c .before .before .name2 in
+    let e-if2 = c .before .before .before .if2 in
+    let at-e-kind = c .before .before .before .before .before in
+    let e-kind = at-e-kind .kind in
+    let s = at-e-kind .before .before .before .before .before .before in
+    found-other (now (s .args .words)) (now (s .args .bytes)) (now (s .args .others)) (now (s .args .names)) (s .args .second) (s .args .i) (s .pre .0 .2) (e-kind .ensures) (e-if2 .taken) (e-name2 .ensures) (e-opposite .ensures) (e-find-name2 .ensures)
 
 returns-3 : tie.Need-returns-3
-returns-3 c = found-none (now (c .before .before .before .before .before .before .before .args .words)) (now (c .before .before .before .before .before .before .before .args .bytes)) (now (c .before .before .before .before .before .before .before .args .others)) (now (c .before .before .before .before .before .before .before .args .names)) (c .before .before .before .before .before .before .before .args .second) (c .before .before .before .before .before .before .before .args .i) (c .before .before .before .before .before .before .before .pre .2) (c .before .before .kind .ensures) (c .before .if1 .left) (c .if2 .left)
+returns-3 c =
+    let e-if2 = c .if2 in
+    let e-if1 = c .before .if1 in
+    let e-kind = c .before .before .kind in
+    let s = c .before .before .before .before .before .before .before .before in
+    found-none (now (s .args .words)) (now (s .args .bytes)) (now (s .args .others)) (now (s .args .names)) (s .args .second) (s .args .i) (s .pre .0 .2) (e-kind .ensures) (e-if1 .left) (e-if2 .left)
 
 pub found-from-spec : {M : Type 1} → statement M
 found-from-spec = tie.close (tie.spec
-    kind-requires name-requires (λ c κs. search needs) returns name-requires-2 (λ c κs. search needs) (λ c κs. search needs) returns-2 returns-3)
+    kind-requires name-requires find-name-requires returns name-requires-2 (λ c κs. search needs) find-name-requires-2 returns-2 returns-3)

@@ -3,7 +3,7 @@ use mathlib.Core.Path.{_≡_, refl, sym, ap, _∙_, subst}
 use mathlib.Core.Logic.{_≢_}
 use mathlib.Core.Bool.{Bool, true, false}
 use mathlib.Core.List.{List, [], _∷_, _++_, map, append-assoc, append-nil}
-use Prim.Native.Nat.{ℕ, suc, _+_, _-_, _≤_, _<_}
+use Prim.Native.Nat.{ℕ, zero, suc, _+_, _-_, _≤_, _<_}
 use native.Mathlib.Numerals.{add-one}
 use native.Mathlib.Omega.{arith}
 use lib.ListN.{length, getD, take, set, length-map}
@@ -12,42 +12,48 @@ use Rattle.graph.specs.Members.{_∈_}
 use Rattle.graph.specs.Laws.Members.{at-mem}
 use Rattle.graph.specs.Transition.{marked}
 use Rattle.ad.specs.Stored.{find}
-use Rattle.links.specs.Pair.{numbered, rootsOf, requirements, rank, pairGraph, Measured}
+use Rattle.links.specs.Pair.{numbered, rootsOf, requirements, rank, pairGraph, unmarked, Measured, RootMarks}
 use Rattle.links.specs.Laws.Counting.{found-few}
 use Rattle.links.specs.Laws.Soundness.{pair-sound}
 use Rattle.links.specs.Laws.Numbering.{stands-small}
 
 -- ---- one more root
 
-no-root : {r : ℕ} (l : List ℕ) → r ≡ marked l → r ≡ 0 → l ≡ []
-no-root [] e z = refl
-no-root (y ∷ l) e z = absurd (let q : suc y ≡ 0 = sym e ∙ z in let w : ⊥ = omega arith in w)
+pub root-none : (rs : List ℕ) (n : ℕ) {m : ℕ} → m ≡ 0 → take n rs ≡ take n rs ++ unmarked m
+root-none rs n z = rw z (sym (append-nil (take n rs)))
 
-a-root : {r : ℕ} (l : List ℕ) → length l ≤ 1 → r ≡ marked l → r ≢ 0 → l ≡ (r - 1) ∷ []
-a-root [] h e z = absurd (z e)
-a-root (y ∷ []) h e z = ap (λ (u : ℕ). u ∷ []) (let q : y ≡ _ - 1 = omega arith in q)
-a-root (y ∷ x ∷ l) h e z = absurd (let q : suc (suc (length l)) ≤ 1 = h in let w : ⊥ = omega arith in w)
-
-module _ (second : Bool) (w b name rs : List ℕ) (n r : ℕ) (e : r ≡ marked (map (numbered second) (find w b name))) where
-  pub root-none : r ≡ 0 → take n rs ≡ take n rs ++ map (numbered second) (find w b name)
-  root-none z = sym (ap (λ (l : List ℕ). take n rs ++ l) (no-root (map (numbered second) (find w b name)) e z) ∙ append-nil (take n rs))
-
-  pub root-one : r ≢ 0 → n < length rs → take (n + 1) (set rs n (r - 1)) ≡ take n rs ++ map (numbered second) (find w b name)
-  root-one z h =
-      let few : length (map (numbered second) (find w b name)) ≤ 1 = rw (length-map (find w b name) (numbered second)) (found-few w b name) in
-      ap (λ (u : ℕ). take u (set rs n (r - 1))) (add-one n) ∙ take-suc-set rs n (r - 1) h
-      ∙ sym (ap (λ (l : List ℕ). take n rs ++ l) (a-root (map (numbered second) (find w b name)) few e z))
+pub root-one : (rs : List ℕ) (n : ℕ) (m : ℕ) → m ≢ 0 → n < length rs → take (n + 1) (set rs n (m - 1)) ≡ take n rs ++ unmarked m
+root-one rs n zero z h = absurd (z refl)
+root-one rs n (suc y) z h =
+    ap (λ (u : ℕ). take u (set rs n (suc y - 1))) (add-one n) ∙ take-suc-set rs n (suc y - 1) h
+    ∙ ap (λ (u : ℕ). take n rs ++ u ∷ []) (let q : suc y - 1 ≡ y = omega arith in q)
 
 -- the four, one after the other
-pub roots-four : (v b w c : List ℕ) {t₁ t₂ t₃ t₄ : List ℕ} → t₁ ≡ rootsOf false v b requirements → t₂ ≡ t₁ ++ rootsOf true w c requirements →
-    t₃ ≡ t₂ ++ rootsOf false v b rank → t₄ ≡ t₃ ++ rootsOf true w c rank → t₄ ≡ pairGraph v b w c .roots
-unfolding pairGraph
-roots-four v b w c e₁ e₂ e₃ e₄ =
-    e₄ ∙ ap (λ (l : List ℕ). l ++ rootsOf true w c rank) (e₃ ∙ ap (λ (l : List ℕ). l ++ rootsOf false v b rank) (e₂ ∙ ap (λ (l : List ℕ). l ++ rootsOf true w c requirements) e₁))
-    ∙ regroup (rootsOf false v b requirements) (rootsOf true w c requirements) (rootsOf false v b rank) (rootsOf true w c rank)
+pub roots-four : (i j k l : ℕ) {t₁ t₂ t₃ t₄ : List ℕ} → t₁ ≡ unmarked i → t₂ ≡ t₁ ++ unmarked j → t₃ ≡ t₂ ++ unmarked k → t₄ ≡ t₃ ++ unmarked l →
+    t₄ ≡ unmarked i ++ (unmarked j ++ (unmarked k ++ unmarked l))
+roots-four i j k l e₁ e₂ e₃ e₄ =
+    e₄ ∙ ap (λ (u : List ℕ). u ++ unmarked l) (e₃ ∙ ap (λ (u : List ℕ). u ++ unmarked k) (e₂ ∙ ap (λ (u : List ℕ). u ++ unmarked j) e₁))
+    ∙ regroup (unmarked i) (unmarked j) (unmarked k) (unmarked l)
   where
     regroup : (p q s t : List ℕ) → ((p ++ q) ++ s) ++ t ≡ p ++ (q ++ (s ++ t))
     regroup p q s t = simp append-assoc
+
+-- a mark of at most one node names it
+pub unmarked-marked : (l : List ℕ) → length l ≤ 1 → unmarked (marked l) ≡ l
+unmarked-marked [] h = refl
+unmarked-marked (y ∷ []) h = refl
+unmarked-marked (y ∷ x ∷ l) h = absurd (let q : suc (suc (length l)) ≤ 1 = h in let w : ⊥ = omega arith in w)
+
+pub root-few : (second : Bool) (w b name : List ℕ) → length (rootsOf second w b name) ≤ 1
+root-few second w b name = rw (length-map (find w b name) (numbered second)) (found-few w b name)
+
+-- THE ROOTS ARE THOSE THAT THE MARKS NAME
+pub roots-listed : {v b w c : List ℕ} {i j k l : ℕ} → RootMarks v b w c i j k l → unmarked i ++ (unmarked j ++ (unmarked k ++ unmarked l)) ≡ pairGraph v b w c .roots
+unfolding pairGraph
+roots-listed {v} {b} {w} {c} r = λ t. one false v b requirements (r .first-required) t ++ (one true w c requirements (r .second-required) t ++ (one false v b rank (r .first-ranked) t ++ one true w c rank (r .second-ranked) t))
+  where
+    one : (second : Bool) (u d name : List ℕ) {m : ℕ} → m ≡ marked (rootsOf second u d name) → unmarked m ≡ rootsOf second u d name
+    one second u d name e = ap unmarked e ∙ unmarked-marked (rootsOf second u d name) (root-few second u d name)
 
 -- ---- what is known of them
 

@@ -13,23 +13,26 @@ use Rattle.values.specs.declared.Value.{Value}
 use Rattle.values.specs.declared.Value.the-variants.{Undefined}
 use Rattle.slots.specs.declared.Slot.{Slot}
 use Rattle.slots.specs.declared.Slot.the-variants.{Held}
+use Rattle.slots.specs.Packed.{slotAt}
 use Rattle.nodes.specs.Nodes.{valueIn}
 use Rattle.graph.specs.Graph.{Graph, Flags}
 use Rattle.valuation.specs.Gives.{Gives}
 use Rattle.valuation.specs.Laws.Values.{gives-unique}
 use Rattle.evaluation.specs.Evaluation.{seen}
-use Rattle.matching.specs.Matching.{Worth, absent, present}
+use Rattle.matching.specs.Matching.{worthAt, Worth, absent, present}
 
-module _ (f : ℕ → Value) where
-  pub root-none : (l : List ℕ) {r : ℕ} → r ≡ marked l → r ≡ 0 → Undefined ≡ valueIn (map f l) 0
-  unfolding valueIn
-  root-none [] e z = refl
-  root-none (y ∷ ys) e z = absurd (let q : _≡_ {A = ℕ} (suc y) 0 = sym e ∙ z in let p : ⊥ = omega arith in p)
+-- a root's value by its mark
+pub worth-none : (table : List ℕ) {m : ℕ} → m ≡ 0 → Undefined ≡ worthAt table m
+worth-none table e = rw e refl
 
-  pub root-some : (l : List ℕ) {r : ℕ} {v : Value} → r ≡ marked l → r ≢ 0 → v ≡ f (r - 1) → v ≡ valueIn (map f l) 0
-  unfolding valueIn
-  root-some [] e n q = absurd (n e)
-  root-some (y ∷ ys) {r} e n q = q ∙ ap f (let p : r ≡ suc y = e in let s : r - 1 ≡ y = omega arith in s)
+pub worth-some : (table : List ℕ) (m : ℕ) {u : Value} → m ≢ 0 → u ≡ seen (slotAt table (m - 1)) → u ≡ worthAt table m
+worth-some table zero n e = absurd (n refl)
+worth-some table (suc y) n e = e ∙ ap (λ (x : ℕ). seen (slotAt table x)) (let q : suc y - 1 ≡ y = omega arith in q)
+
+pub worth-marked : (table l : List ℕ) {m : ℕ} → m ≡ marked l → worthAt table m ≡ valueIn (map (λ y. seen (slotAt table y)) l) 0
+unfolding valueIn
+worth-marked table [] e = ap (worthAt table) e
+worth-marked table (y ∷ ys) e = ap (worthAt table) e
 
 -- what the table holds for a root that was worked out is the value of its definition
 pub worth-of : {need : ℕ → List ℕ} {rule : ℕ → List Value → Value} (t : ℕ → Slot) (l : List ℕ) → Each (λ x. (v : Value) × Gives need rule x v × (t x ≡ Held v)) l →
