@@ -25,7 +25,7 @@ returns c =
     let at-e-clear-words = at-e-traverse .before .before .before .before .before .before in
     let e-clear-words = at-e-clear-words .clear-words in
     let s = at-e-clear-words .before .before .before .before .before .before .before .before .before .before .before .before in
-    orders-of (now (s .args .v)) (now (s .args .b)) (now (s .args .w)) (now (s .args .c)) (let h = s .pre .3 in let k = e-traverse .kept .1 .1 .1 .1 .1 .1 .0 in let l = e-clear-words .kept .0 in omega arith) (e-traverse .ensures)
+    orders-of (now (s .args .v)) (now (s .args .b)) (now (s .args .w)) (now (s .args .c)) (let h = s .pre .3 in let k = e-traverse .kept .1 .1 .1 .1 .1 .1 .0 in let l = e-clear-words .kept .0 in omega arith) (e-traverse .ensures .0)
 
 pub order-formed-spec : {M : Type 1} → statement M
 order-formed-spec = tie.close (tie.spec
