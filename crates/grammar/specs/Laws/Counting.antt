@@ -9,6 +9,7 @@ use Rattle.text.specs.Strings.{sameName}
 use Rattle.syntax.specs.Tree.{Expr, Definition, Ad, size, nodes}
 use Rattle.syntax.specs.Token.{Token, operator, symbol}
 use Rattle.syntax.specs.Grammar.{unaryToken, ReadsTo, reads-literal, reads-own, reads-other, reads-parentheses, reads-unary, reads-binary, reads-conditional, reads-tighter, DefinesTo, defines-one, defines-more, AdTo, ad-empty, ad-plain, ad-trailing, IsAd, defined, NewAfter, Within}
+use Rattle.syntax.specs.Laws.Codes.{neither}
 use Rattle.syntax.specs.declared.Unary.{Unary}
 use Rattle.syntax.specs.declared.Unary.the-variants.{Not, Plus, Minus}
 use Rattle.syntax.specs.declared.Symbol.the-variants.{CloseBracket, Semicolon, OpenParenthesis, CloseParenthesis, Question, Colon}
@@ -124,10 +125,6 @@ ad-counted (ad-trailing {ts} d) =
 
 -- ---- names
 
-or-false : (x y : Bool) → (x || y) ≡ false → (x ≡ false) × (y ≡ false)
-or-false true y h = absurd (true≢false h)
-or-false false y h = (refl, h)
-
 or-true : (x y : Bool) → y ≡ true → (x || y) ≡ true
 or-true true y h = refl
 or-true false y h = h
@@ -135,17 +132,17 @@ or-true false y h = h
 among-front : (w : List ℕ) (xs ys : List (List ℕ)) → among w (xs ++ ys) ≡ false → among w xs ≡ false
 unfolding among
 among-front w [] ys h = refl
-among-front w (x ∷ xs) ys h = let k = or-false (sameName w x) (among w (xs ++ ys)) h in rw (k .0) (among-front w xs ys (k .1))
+among-front w (x ∷ xs) ys h = let k = neither (sameName w x) (among w (xs ++ ys)) h in rw (k .0) (among-front w xs ys (k .1))
 
 repeats-front : (xs ys : List (List ℕ)) → repeats (xs ++ ys) ≡ false → repeats xs ≡ false
 unfolding repeats
 repeats-front [] ys h = refl
-repeats-front (x ∷ xs) ys h = let k = or-false (among x (xs ++ ys)) (repeats (xs ++ ys)) h in rw (among-front x xs ys (k .0)) (repeats-front xs ys (k .1))
+repeats-front (x ∷ xs) ys h = let k = neither (among x (xs ++ ys)) (repeats (xs ++ ys)) h in rw (among-front x xs ys (k .0)) (repeats-front xs ys (k .1))
 
 among-last : (w x : List ℕ) (xs : List (List ℕ)) → among w xs ≡ false → sameName w x ≡ false → among w (xs ++ x ∷ []) ≡ false
 unfolding among
 among-last w x [] h i = rw i refl
-among-last w x (y ∷ xs) h i = let k = or-false (sameName w y) (among w xs) h in rw (k .0) (among-last w x xs (k .1) i)
+among-last w x (y ∷ xs) h i = let k = neither (sameName w y) (among w xs) h in rw (k .0) (among-last w x xs (k .1) i)
 
 among-there : (w x : List ℕ) (xs : List (List ℕ)) → sameName w x ≡ true → among w (xs ++ x ∷ []) ≡ true
 unfolding among
@@ -157,8 +154,8 @@ pub fresh-last : (a : Ad) (w : List ℕ) → repeats (names a) ≡ false → def
 unfolding names repeats among defined
 fresh-last [] w h i = refl
 fresh-last (d ∷ a) w h i =
-    let k = or-false (among (d .name) (names a)) (repeats (names a)) h in
-    let j = or-false (sameName (d .name) w) (defined w a) i in
+    let k = neither (among (d .name) (names a)) (repeats (names a)) h in
+    let j = neither (sameName (d .name) w) (defined w a) i in
     rw (among-last (d .name) w (names a) (k .0) (j .0)) (fresh-last a w (k .1) (j .1))
 
 pub taken-last : (a : Ad) (w : List ℕ) → defined w a ≡ true → repeats (names a ++ w ∷ []) ≡ true
