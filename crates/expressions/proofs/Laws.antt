@@ -181,13 +181,13 @@ module _ (s : List ℕ) (at d : ℕ) (m : Mark) (o : ℕ) (w : Memory) where
   pub unary-primary : (w₁ : Memory) (r : Read) → ((x : Unary) → NotToken (unaryToken x) (tokensAt s at)) → PrimaryOk s at d m o w w₁ r → UnaryOk s at d m o w w₁ r
   unfolding conditionalAt
   unary-primary w₁ r h a zero lt = absurd (omega arith)
-  unary-primary w₁ r h a (suc f) lt = rw (unary-off (tokensAt s at) (λ x p v. level d p (λ _. room limits (m .nodes + o) p (λ _. after (unaryAt limits f v (d + 1) (m .nodes + o + 1)) (λ a u. ok (unary x a) u)))) (λ _. primaryAt limits f (tokensAt s at) d (m .nodes + o)) h) (a f (omega arith))
+  unary-primary w₁ r h a (suc f) lt = rw (unary-off (tokensAt s at) (λ x p v. level limits d p (λ _. room limits (m .nodes + o) p (λ _. after (unaryAt limits f v (d + 1) (m .nodes + o + 1)) (λ a u. ok (unary x a) u)))) (λ _. primaryAt limits f (tokensAt s at) d (m .nodes + o)) h) (a f (omega arith))
 
   module _ (x : Unary) (p q : ℕ) (g : Stands s at p (unaryToken x) q) where
     -- the reader behind the operator
-    enters : (f : ℕ) → unaryAt limits (suc f) (tokensAt s at) d (m .nodes + o) ≡ level d p (λ _. room limits (m .nodes + o) p (λ _. after (unaryAt limits f (tokensAt s q) (d + 1) (m .nodes + o + 1)) (λ a u. ok (unary x a) u)))
+    enters : (f : ℕ) → unaryAt limits (suc f) (tokensAt s at) d (m .nodes + o) ≡ level limits d p (λ _. room limits (m .nodes + o) p (λ _. after (unaryAt limits f (tokensAt s q) (d + 1) (m .nodes + o + 1)) (λ a u. ok (unary x a) u)))
     unfolding conditionalAt
-    enters f = rw (g .stands) (unary-on x p (tokensAt s q) (λ y p v. level d p (λ _. room limits (m .nodes + o) p (λ _. after (unaryAt limits f v (d + 1) (m .nodes + o + 1)) (λ a u. ok (unary y a) u)))) (λ _. primaryAt limits f (next p (unaryToken x) (tokensAt s q)) d (m .nodes + o)))
+    enters f = rw (g .stands) (unary-on x p (tokensAt s q) (λ y p v. level limits d p (λ _. room limits (m .nodes + o) p (λ _. after (unaryAt limits f v (d + 1) (m .nodes + o + 1)) (λ a u. ok (unary y a) u)))) (λ _. primaryAt limits f (next p (unaryToken x) (tokensAt s q)) d (m .nodes + o)))
 
     pub unary-deep : (w₁ : Memory) → 64 ≤ d → UnaryOk s at d m o w w₁ (Refused 6 p)
     unary-deep w₁ hd zero lt = absurd (omega arith)

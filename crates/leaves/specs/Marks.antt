@@ -119,7 +119,7 @@ OtherLeaf s p at m o w w′ (Open k q) = ⊥
 abbrev pub LeafOk : List ℕ → ℕ → Mark → ℕ → Memory → Memory → Leaf → Type 0
 LeafOk s at m o w w′ (Done q n k) = (e : Expr) × ((f d : ℕ) → primaryAt limits (suc f) (tokensAt s at) d (m .nodes + o) ≡ ok e (tokensAt s q)) × (mark n k ≡ past m e) × (w′ ≡ written w m e)
 LeafOk s at m o w w′ (Refused k p) = (f d : ℕ) → primaryAt limits (suc f) (tokensAt s at) d (m .nodes + o) ≡ refused k p
-LeafOk s at m o w w′ (Open p q) = (f d : ℕ) → primaryAt limits (suc f) (tokensAt s at) d (m .nodes + o) ≡ level d p (λ _. after (conditionalAt limits f (tokensAt s q) (d + 1) (m .nodes + o)) (λ e u. want (symbol CloseParenthesis) u (λ v. ok e v)))
+LeafOk s at m o w w′ (Open p q) = (f d : ℕ) → primaryAt limits (suc f) (tokensAt s at) d (m .nodes + o) ≡ level limits d p (λ _. after (conditionalAt limits f (tokensAt s q) (d + 1) (m .nodes + o)) (λ e u. want (symbol CloseParenthesis) u (λ v. ok e v)))
 
 -- where the reader is behind a literal or reference, or behind the parenthesis: for 'the falling number is bytes left with the
 -- binding level'

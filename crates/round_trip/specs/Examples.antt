@@ -103,7 +103,7 @@ sum-read-back n h = read-back (only (sum n)) (only-bounded (sum n) (omega (arith
 
 -- document 01's limits, but for '1,024 nodes', in whose place there may be n
 abbrev pub withNodes : ℕ → Limits
-withNodes n = record { most-nodes = n; most-definitions = limits .most-definitions; taken = limits .taken }
+withNodes n = record { most-levels = limits .most-levels; most-nodes = n; most-definitions = limits .most-definitions; taken = limits .taken }
 
 -- A SUM OF ANY LENGTH READS BACK where the bound on nodes is lifted for it: neither levels nor parentheses keep it from that. Against
 -- the slip 'a sum of 100 terms reads back as refusal 6'

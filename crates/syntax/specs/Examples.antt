@@ -9,7 +9,7 @@ use Rattle.text.specs.Strings.{sameName, sameBytes}
 use Rattle.syntax.specs.Tree.{Literal, undefined, error, boolean, integer, real, string, Scope, own, other, Expr, literal, reference, unary, binary, conditional, Definition, Ad, size}
 use Rattle.syntax.specs.Token.{word, constant, operator, symbol, Tokens, next, end, bad, frontOf, reserved, wordIn, nameFront, valueFrom, fractionOf, integerFront, realFront, numberFront, escapeOf, bodyOf, spellings, begins, symbolIn, frontToken, tokensFrom, tokens}
 use Rattle.syntax.specs.Grammar.{bindsOf, defined}
-use Rattle.syntax.specs.Reader.{Answer, accepted, denied, codeOf, conditionalAt, count, definitionsAt, adAt, parse, read}
+use Rattle.syntax.specs.Reader.{Answer, accepted, denied, codeOf, Limits, conditionalAt, count, definitionsAt, adAt, parse, read}
 use Rattle.syntax.specs.Print.{digits, lastDigits, escaped, escapedAll, literalText, binaryText, unaryText, binds, referenceText, printed, definitionsText, printedAd, levelOf}
 use Rattle.syntax.specs.declared.Binary.the-variants.{Or, And, Equal, Is, Isnt, Less, Add, Subtract, Multiply}
 use Rattle.syntax.specs.declared.Unary.the-variants.{Not, Minus}
@@ -120,6 +120,64 @@ readings =
 read-as : map (λ (r : Reading). read (r .text)) readings ≡ map (λ (r : Reading). r .gives) readings
 unfolding readings printing-example read parse adAt definitionsAt conditionalAt count size defined tokensFrom frontToken nameFront wordIn reserved numberFront integerFront realFront fractionOf valueFrom bodyOf escapeOf frontOf symbolIn begins spellings bytes isBlank isDigit isLetter startsName continuesName lowerCase sameName sameBytes
 read-as = refl
+
+-- ---- reading within small limits
+
+-- a text, limits in place of document 01's, and what reading the text within them answers
+pub record LimitedReading : Type 0 where
+  pub text : List ℕ
+  pub limits : Limits
+  pub gives : Answer
+
+-- limits on levels, nodes and definitions
+abbrev small : ℕ → ℕ → ℕ → Limits
+small levels nodes definitions = record { most-levels = levels; most-nodes = nodes; most-definitions = definitions; taken = defined }
+
+-- '257th definition or 1,025th node', and two rules broken at one token: 'At one token the order is 3, 7, 5, 4, 6, 8, 9.'
+unfoldable pub limited-readings : List LimitedReading
+limited-readings =
+    -- 'Each is itself accepted; one more is refused.'
+    record { text = bytes "[a = 1 + 2]"; limits = small 0 3 1; gives = accepted (define (bytes "a") (binary Add (whole 1) (whole 2)) ∷ []) }
+    -- 'Nodes are counted in text order: each literal, each reference .., each operator': the operator before its second operand
+    ∷ record { text = bytes "[a = 1 + 2]"; limits = small 0 2 1; gives = denied 9 9 }
+    ∷ record { text = bytes "[a = 1 + 2]"; limits = small 0 1 1; gives = denied 9 7 }
+    ∷ record { text = bytes "[a = 1 + 2]"; limits = small 0 0 1; gives = denied 9 5 }
+    ∷ record { text = bytes "[a = b]"; limits = small 0 0 1; gives = denied 9 5 }
+    -- a unary operator
+    ∷ record { text = bytes "[a = 1 + !b]"; limits = small 1 2 1; gives = denied 9 9 }
+    -- '(at `other` where it has one)', whatever follows it
+    ∷ record { text = bytes "[a = 1 + other.b]"; limits = small 0 2 1; gives = denied 9 9 }
+    ∷ record { text = bytes "[a = other]"; limits = small 0 0 1; gives = denied 9 5 }
+    ∷ record { text = bytes "[a = other.b]"; limits = small 0 1 1; gives = accepted (define (bytes "a") (reference other (bytes "b")) ∷ []) }
+    -- '(a conditional at its `?`)'
+    ∷ record { text = bytes "[a = b ? c : d]"; limits = small 1 1 1; gives = denied 9 7 }
+    ∷ record { text = bytes "[a = b ? c : d]"; limits = small 1 3 1; gives = denied 9 13 }
+    -- an expression in parentheses 'leaves no node'
+    ∷ record { text = bytes "[a = (1)]"; limits = small 1 1 1; gives = accepted (define (bytes "a") (whole 1) ∷ []) }
+    -- 'a definition at its name'
+    ∷ record { text = bytes "[a = 1; b 2"; limits = small 0 2 1; gives = denied 9 8 }
+    -- 6 before 9
+    ∷ record { text = bytes "[a = -1]"; limits = small 0 0 1; gives = denied 6 5 }
+    ∷ record { text = bytes "[a = b ? c : d]"; limits = small 0 1 1; gives = denied 6 7 }
+    -- 8 before 9
+    ∷ record { text = bytes "[a = 1; A = 2]"; limits = small 0 2 1; gives = denied 8 8 }
+    -- 4 before 6 and 9
+    ∷ record { text = bytes "[a = 1 (2)]"; limits = small 0 1 1; gives = denied 4 7 }
+    ∷ record { text = bytes "[a = 1 !2]"; limits = small 0 1 1; gives = denied 4 7 }
+    ∷ record { text = bytes "[a = 1 2]"; limits = small 0 1 1; gives = denied 4 7 }
+    -- 3, 7 and 5 before 4 and 9
+    ∷ record { text = bytes "[a = 1 $]"; limits = small 0 1 1; gives = denied 3 7 }
+    ∷ record { text = bytes "[a = \"b]"; limits = small 0 0 1; gives = denied 3 5 }
+    ∷ record { text = bytes "[a = 1 " ++ replicate 65 98; limits = small 0 1 1; gives = denied 7 7 }
+    ∷ record { text = bytes "[a = 1; " ++ replicate 65 98; limits = small 0 1 1; gives = denied 7 8 }
+    ∷ record { text = bytes "[a = 1 2147483648]"; limits = small 0 1 1; gives = denied 5 7 }
+    ∷ record { text = bytes "[a = 2147483648]"; limits = small 0 0 1; gives = denied 5 5 }
+    ∷ []
+
+-- WITHIN ITS LIMITS EACH TEXT OF THE TABLE READS AS ITS ANSWER
+limited-read-as : map (λ (r : LimitedReading). adAt (r .limits) (tokens (r .text))) limited-readings ≡ map (λ (r : LimitedReading). r .gives) limited-readings
+unfolding limited-readings adAt definitionsAt conditionalAt count size defined tokensFrom frontToken nameFront wordIn reserved numberFront integerFront realFront fractionOf valueFrom bodyOf escapeOf frontOf symbolIn begins spellings bytes isBlank isDigit isLetter startsName continuesName lowerCase sameName sameBytes
+limited-read-as = refl
 
 -- ---- printing
 

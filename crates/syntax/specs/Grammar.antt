@@ -39,47 +39,59 @@ unaryToken Not = symbol Exclamation
 unaryToken Plus = operator Add
 unaryToken Minus = operator Subtract
 
--- Reads b d ts e: at level d the tokens ts are the expression e, in which no operator outside parentheses binds looser than b.
+-- ReadsTo n b d ts e: at level d the tokens ts are the expression e, in which no operator outside parentheses binds looser than b.
 -- 'The inside of parentheses, the operand of a unary operator and both arms of a conditional are one level deeper', and no
--- deeper than level 64. 'An expression in parentheses is again a whole expression and leaves no node.' 'Binary operators group
+-- deeper than level n. 'An expression in parentheses is again a whole expression and leaves no node.' 'Binary operators group
 -- to the left.' 'A conditional is an `||`-expression, `?`, an expression, `:`, an expression.'
-pub data Reads : ℕ → ℕ → List Token → Expr → Type 0 where
-  reads-literal : {d : ℕ} {l : Literal} → Reads 8 d (constant l ∷ []) (literal l)
-  reads-own : {d : ℕ} {w : List ℕ} → Reads 8 d (word w ∷ []) (reference own w)
-  reads-other : {d : ℕ} {w : List ℕ} → Reads 8 d (symbol Other ∷ symbol Point ∷ word w ∷ []) (reference other w)
-  reads-parentheses : {d : ℕ} {ts : List Token} {e : Expr} → d < maxLevel →
-      Reads 0 (d + 1) ts e →
-      Reads 8 d (symbol OpenParenthesis ∷ (ts ++ symbol CloseParenthesis ∷ [])) e
-  reads-unary : {d : ℕ} {u : Unary} {ts : List Token} {e : Expr} → d < maxLevel →
-      Reads 7 (d + 1) ts e →
-      Reads 7 d (unaryToken u ∷ ts) (unary u e)
+pub data ReadsTo (n : ℕ) : ℕ → ℕ → List Token → Expr → Type 0 where
+  reads-literal : {d : ℕ} {l : Literal} → ReadsTo n 8 d (constant l ∷ []) (literal l)
+  reads-own : {d : ℕ} {w : List ℕ} → ReadsTo n 8 d (word w ∷ []) (reference own w)
+  reads-other : {d : ℕ} {w : List ℕ} → ReadsTo n 8 d (symbol Other ∷ symbol Point ∷ word w ∷ []) (reference other w)
+  reads-parentheses : {d : ℕ} {ts : List Token} {e : Expr} → d < n →
+      ReadsTo n 0 (d + 1) ts e →
+      ReadsTo n 8 d (symbol OpenParenthesis ∷ (ts ++ symbol CloseParenthesis ∷ [])) e
+  reads-unary : {d : ℕ} {u : Unary} {ts : List Token} {e : Expr} → d < n →
+      ReadsTo n 7 (d + 1) ts e →
+      ReadsTo n 7 d (unaryToken u ∷ ts) (unary u e)
   reads-binary : {d : ℕ} {j : Binary} {xs ys : List Token} {a b : Expr} →
-      Reads (bindsOf j) d xs a →
-      Reads (bindsOf j + 1) d ys b →
-      Reads (bindsOf j) d (xs ++ operator j ∷ ys) (binary j a b)
-  reads-conditional : {d : ℕ} {xs ys zs : List Token} {a b c : Expr} → d < maxLevel →
-      Reads 1 d xs a →
-      Reads 0 (d + 1) ys b →
-      Reads 0 (d + 1) zs c →
-      Reads 0 d (xs ++ symbol Question ∷ (ys ++ symbol Colon ∷ zs)) (conditional a b c)
+      ReadsTo n (bindsOf j) d xs a →
+      ReadsTo n (bindsOf j + 1) d ys b →
+      ReadsTo n (bindsOf j) d (xs ++ operator j ∷ ys) (binary j a b)
+  reads-conditional : {d : ℕ} {xs ys zs : List Token} {a b c : Expr} → d < n →
+      ReadsTo n 1 d xs a →
+      ReadsTo n 0 (d + 1) ys b →
+      ReadsTo n 0 (d + 1) zs c →
+      ReadsTo n 0 d (xs ++ symbol Question ∷ (ys ++ symbol Colon ∷ zs)) (conditional a b c)
   -- what binds tighter may stand where b is asked
-  reads-tighter : {b d : ℕ} {ts : List Token} {e : Expr} → b < 8 → Reads (b + 1) d ts e → Reads b d ts e
+  reads-tighter : {b d : ℕ} {ts : List Token} {e : Expr} → b < 8 → ReadsTo n (b + 1) d ts e → ReadsTo n b d ts e
 
 -- 'definitions `name = expression` parted by `;`'; 'A definition's expression starts at level 0.'
-pub data Defines : List Token → Ad → Type 0 where
+pub data DefinesTo (n : ℕ) : List Token → Ad → Type 0 where
   defines-one : {w : List ℕ} {ts : List Token} {e : Expr} →
-      Reads 0 0 ts e →
-      Defines (word w ∷ symbol Assign ∷ ts) (record { name = w; expression = e } ∷ [])
+      ReadsTo n 0 0 ts e →
+      DefinesTo n (word w ∷ symbol Assign ∷ ts) (record { name = w; expression = e } ∷ [])
   defines-more : {w : List ℕ} {ts us : List Token} {e : Expr} {a : Ad} →
-      Reads 0 0 ts e →
-      Defines us a →
-      Defines (word w ∷ symbol Assign ∷ (ts ++ symbol Semicolon ∷ us)) (record { name = w; expression = e } ∷ a)
+      ReadsTo n 0 0 ts e →
+      DefinesTo n us a →
+      DefinesTo n (word w ∷ symbol Assign ∷ (ts ++ symbol Semicolon ∷ us)) (record { name = w; expression = e } ∷ a)
 
 -- '`[`, then definitions .., one further `;` allowed after the last, then `]`. `[]` is an ad; `[;]` is not.'
-pub data IsAd : List Token → Ad → Type 0 where
-  ad-empty : IsAd (symbol OpenBracket ∷ symbol CloseBracket ∷ []) []
-  ad-plain : {ts : List Token} {a : Ad} → Defines ts a → IsAd (symbol OpenBracket ∷ (ts ++ symbol CloseBracket ∷ [])) a
-  ad-trailing : {ts : List Token} {a : Ad} → Defines ts a → IsAd (symbol OpenBracket ∷ (ts ++ symbol Semicolon ∷ symbol CloseBracket ∷ [])) a
+pub data AdTo (n : ℕ) : List Token → Ad → Type 0 where
+  ad-empty : AdTo n (symbol OpenBracket ∷ symbol CloseBracket ∷ []) []
+  ad-plain : {ts : List Token} {a : Ad} → DefinesTo n ts a → AdTo n (symbol OpenBracket ∷ (ts ++ symbol CloseBracket ∷ [])) a
+  ad-trailing : {ts : List Token} {a : Ad} → DefinesTo n ts a → AdTo n (symbol OpenBracket ∷ (ts ++ symbol Semicolon ∷ symbol CloseBracket ∷ [])) a
+
+-- an expression within 'level 64'
+abbrev pub Reads : ℕ → ℕ → List Token → Expr → Type 0
+Reads = ReadsTo maxLevel
+
+-- definitions within 'level 64'
+abbrev pub Defines : List Token → Ad → Type 0
+Defines = DefinesTo maxLevel
+
+-- an ad within 'level 64'
+abbrev pub IsAd : List Token → Ad → Type 0
+IsAd = AdTo maxLevel
 
 -- whether a name is defined among some definitions: 'Names match without regard to ASCII case'
 unfoldable pub defined : List ℕ → Ad → Bool

@@ -127,22 +127,23 @@ after (refused k p) go = refused k p
 abbrev pub want : Token → Tokens → (Tokens → Parsed) → Parsed
 want x u go = onToken x u (λ p v. go v) (λ _. misfit refused u)
 
--- 'Level 65 is refused at its `(`, unary operator or `?`': 6, where level d is left for a deeper one
-abbrev pub level : ℕ → ℕ → (Unit {0} → Parsed) → Parsed
-level d p go = pick (leb maxLevel d) (λ _. refused 6 p) go
-
--- What counts over the whole ad: how many nodes and definitions it may have, and which names are refused after others: for '256
--- definitions; 1,024 nodes' and 'name defined twice'.
+-- Limits within which a text is read: the highest level, how many nodes and definitions an ad may have, and which names are taken
+-- after some definitions.
 pub record Limits : Type 0 where
+  pub most-levels : ℕ
   pub most-nodes : ℕ
   pub most-definitions : ℕ
   pub taken : List ℕ → Ad → Bool
 
--- document 01's: 1,024 nodes, 256 definitions, and no 'name defined twice'
+-- document 01's: '256 definitions; 1,024 nodes; .. level 64', and no 'name defined twice'
 abbrev pub limits : Limits
-limits = record { most-nodes = maxNodes; most-definitions = maxDefinitions; taken = defined }
+limits = record { most-levels = maxLevel; most-nodes = maxNodes; most-definitions = maxDefinitions; taken = defined }
 
 module _ (L : Limits) where
+  -- 'Level 65 is refused at its `(`, unary operator or `?`': 6, where level d is left for a deeper one
+  abbrev pub level : ℕ → ℕ → (Unit {0} → Parsed) → Parsed
+  level d p go = pick (leb (L .most-levels) d) (λ _. refused 6 p) go
+
   -- '1,025th node': 9, after c nodes. 'Nodes are counted in text order'
   abbrev pub room : ℕ → ℕ → (Unit {0} → Parsed) → Parsed
   room c p go = pick (leb (L .most-nodes) c) (λ _. refused 9 p) go

@@ -1,29 +1,29 @@
--- Where the reader of ads stops. Assumes nothing.
+-- The reader of ads: its refusals are those of document 01. Assumes nothing.
 use Prim.Native.Nat.{ℕ, zero, suc, _+_, _≤_, _<_}
 use native.Mathlib.Omega.{arith}
-use mathlib.Core.Path.{refl, sym, subst}
-use mathlib.Core.List.{List, [], _∷_, _++_, append-assoc}
-use lib.ListN.{length}
+use mathlib.Core.Path.{_≡_, refl, sym, _∙_, ap, subst}
+use mathlib.Core.Bool.{true, false, true≢false}
+use mathlib.Core.List.{List, [], _∷_, _++_, append-nil}
+use lib.ListN.{length, length-append}
 use lib.Dec.{leb}
-use Rattle.syntax.specs.Tree.{undefined, Expr, literal, Ad, size}
+use borrow.Author.Tests.{leb-true, leb-false}
+use Rattle.syntax.specs.Bounds.{maxLevel, maxDefinitions}
+use Rattle.syntax.specs.Tree.{undefined, Expr, literal, Definition, Ad, size}
 use Rattle.syntax.specs.Token.{Token, word, constant, operator, symbol, Tokens, next, end, bad}
-use Rattle.syntax.specs.Grammar.{Reads, IsAd, ad-empty, Follows, none, some}
-use Rattle.syntax.specs.Reader.{Parsed, ok, refused, Answer, accepted, denied, codeOf, isToken, misfit, onToken, onWord, Limits, conditionalAt, afterA, wantA, endA, enough, admit, definitionsAt, behindAt, adAt}
+use Rattle.syntax.specs.Grammar.{AdTo, ad-empty, defined, Follows, none, some}
+use Rattle.syntax.specs.Reader.{Parsed, ok, refused, Answer, accepted, denied, codeOf, isToken, misfit, onToken, onWord, Limits, limits, conditionalAt, afterA, wantA, endA, enough, admit, definitionsAt, behindAt, adAt}
 use Rattle.syntax.specs.Laws.Codes.{on-pick, is-token, symbol-coded}
 use Rattle.syntax.specs.Laws.Sound.{follows-append}
 use Rattle.syntax.specs.Laws.SoundAd.{Closes, closes, Behind, behind-last, behind-more, closes-ad, one-more}
-use Rattle.syntax.specs.Laws.Complete.{follows-split}
+use Rattle.syntax.specs.Laws.Complete.{follows-none}
 use Rattle.syntax.specs.declared.Symbol.the-variants.{OpenBracket, CloseBracket, Semicolon, Assign}
-use Rattle.grammar.specs.Viable.{At}
-use Rattle.grammar.specs.Laws.Alike.{Alike, alike-next, alike-bad, alike-front, InFront, front-alike, Unlike, NoWord, done, stuck, Meets}
-use Rattle.grammar.specs.Laws.Stops.{InToken, in-token, step-in, Fit, All, Step, step-of, Extends, undefined-reads, Got, Stops}
+use Rattle.grammar.specs.Refusal.{Role, refers, defines, nodesIn, namesIn, namesOf, repeats, Shallow, DistinctNames, twice, many, Refusal}
+use Rattle.grammar.specs.Laws.Counting.{behind, Plain, plain-append, plain-one, reads-plain, names, names-last, names-length, fresh-last, taken-last}
+use Rattle.grammar.specs.Laws.Alike.{Alike, alike-next, alike-bad, InFront, front-alike, Unlike, NoWord, done, stuck, Meets}
+use Rattle.grammar.specs.Laws.Places.{All, Step, step, Off, reads-more, undefined-reads, Stuck, Got, Denied, cut, Here, names-on, nodes-on, room-left, move, move-token, same-names, refuse, misfit-at, go-on}
 use Rattle.grammar.specs.Laws.Expressions.{conditionalR, conditional-ends}
 
 -- ---- the second run
-
-abbrev pub Denied : Answer → Type 0
-Denied (accepted a) = ⊥
-Denied (denied k p) = Unit {0}
 
 misfit-denied : (u : Tokens) → Denied (misfit denied u)
 misfit-denied (next p t u) = tt
@@ -64,96 +64,12 @@ next-denied a alike-next = tt
 bad-denied : {k p : ℕ} {y : Tokens} (a : Ad) → Alike (bad k p) y → Denied (endA y a)
 bad-denied a alike-bad = tt
 
--- ---- where the first run stops
-
-abbrev pub AllA : (ℕ → ℕ → Type 0) → Answer → Type 0
-AllA R (accepted a) = Unit {0}
-AllA R (denied k p) = 0 < k → R k p
-
 -- a reader of ads, over limits, a depth of calls, tokens, definitions and a count of nodes
-abbrev pub RunA : Type 0
+abbrev RunA : Type 0
 RunA = Limits → ℕ → Tokens → Ad → ℕ → Answer
 
--- over any tokens that begin with ts and then go on like x, the reader R refuses
-abbrev pub LocalA : RunA → List Token → Tokens → Type 0
-LocalA R ts x = (K : Limits) (f : ℕ) (u y : Tokens) (a : Ad) (c : ℕ) → Follows u ts y → Alike x y → Denied (R K f u a c)
-
--- some more tokens make one of T of the tokens ts
-pub record ExtendsA (T : List Token → Ad → Type 0) (ts : List Token) : Type 0 where
-  pub more : List Token
-  pub tree : Ad
-  pub sentence : T (ts ++ more) tree
-
-pub record StopsA (T : List Token → Ad → Type 0) (R : RunA) (u : Tokens) (k p : ℕ) : Type 0 where
-  pub those : List Token
-  pub rest : Tokens
-  pub follows : Follows u those rest
-  pub at : At k p rest
-  pub more : ExtendsA T those
-  pub local : k < 8 → LocalA R those rest
-  pub fits : 8 ≤ k → InToken (λ t. ExtendsA T (those ++ t ∷ [])) rest
-
-module _ (R : ℕ → ℕ → Type 0) where
-  misfit-ends : (u : Tokens) → ((k p : ℕ) → At k p u → Fit k u → R k p) → AllA R (misfit denied u)
-  misfit-ends (next p t u) f = λ l. f 4 p refl (λ P h. absurd (omega arith))
-  misfit-ends (end n) f = λ l. f 4 n refl (λ P h. absurd (omega arith))
-  misfit-ends (bad k p) f = λ l. f k p (refl, refl) (λ P h. tt)
-
-  token-ends : (x : Token) → 1 ≤ codeOf x → (u : Tokens) (then : ℕ → Tokens → Answer) (otherwise : Unit {0} → Answer) →
-      ((p : ℕ) (v : Tokens) → Step u p x v → AllA R (then p v)) → (InFront (Unlike x) u → AllA R (otherwise tt)) → AllA R (onToken x u then otherwise)
-  token-ends x hx (next p t u) then otherwise f g =
-      on-pick (AllA R) (isToken x t) _ otherwise
-      (λ b. f p u (subst (λ (y : Token). Step (next p t u) p y u) (is-token x t hx b) (step-of p t u)))
-      (λ b. g b)
-  token-ends x hx (end n) then otherwise f g = g tt
-  token-ends x hx (bad k p) then otherwise f g = g tt
-
-  want-ends : (x : Token) → 1 ≤ codeOf x → (u : Tokens) (go : Tokens → Answer) → ((p : ℕ) (v : Tokens) → Step u p x v → AllA R (go v)) → (InFront (Unlike x) u → (k p : ℕ) → At k p u → Fit k u → R k p) → AllA R (wantA x u go)
-  want-ends x hx u go f g = token-ends x hx u _ _ f (λ e. misfit-ends u (g e))
-
-  word-ends : (u : Tokens) (then : ℕ → List ℕ → Tokens → Answer) (otherwise : Unit {0} → Answer) →
-      ((p : ℕ) (w : List ℕ) (v : Tokens) → Step u p (word w) v → AllA R (then p w v)) → (InFront NoWord u → AllA R (otherwise tt)) → AllA R (onWord u then otherwise)
-  word-ends (next p (word w) u) then otherwise f g = f p w u (step-of p (word w) u)
-  word-ends (next p (constant l) u) then otherwise f g = g tt
-  word-ends (next p (operator j) u) then otherwise f g = g tt
-  word-ends (next p (symbol s) u) then otherwise f g = g tt
-  word-ends (end n) then otherwise f g = g tt
-  word-ends (bad k p) then otherwise f g = g tt
-
-  admit-ends : (L : Limits) (w : List ℕ) (p : ℕ) (a : Ad) (go : Unit {0} → Answer) → R 8 p → R 9 p → AllA R (go tt) → AllA R (admit L w p a go)
-  admit-ends L w p a go r r′ h = on-pick (AllA R) (L .taken w a) _ _ (λ _ l. r) (λ _. on-pick (AllA R) (leb (L .most-definitions) (length a)) _ go (λ _ l. r′) (λ _. h))
-
-  after-ends : (P : Expr → Tokens → Type 0) (S : ℕ → ℕ → Type 0) (x : Parsed) (go : Expr → Tokens → Answer) → All P S x → ((k p : ℕ) → S k p → R k p) → ((e : Expr) (u : Tokens) → P e u → AllA R (go e u)) → AllA R (afterA x go)
-  after-ends P S (ok e u) go h g f = f e u h
-  after-ends P S (refused k p) go h g f = λ l. g k p (h l)
-
-  all-ends : (S : ℕ → ℕ → Type 0) (x : Answer) → AllA S x → ((k p : ℕ) → S k p → R k p) → AllA R x
-  all-ends S (accepted a) h g = tt
-  all-ends S (denied k p) h g = λ l. g k p (h l)
-
--- behind `]`
-end-ends : (T : List Token → Ad → Type 0) (R : RunA) (u v : Tokens) (a : Ad) → T (symbol CloseBracket ∷ []) [] → Follows u (symbol CloseBracket ∷ []) v → ((K : Limits) (f : ℕ) (w y : Tokens) (b : Ad) (c : ℕ) → Follows w (symbol CloseBracket ∷ []) y → Denied (endA y b) → Denied (R K f w b c)) → AllA (StopsA T R u) (endA v a)
-end-ends T R u (next p t v) a h s pass = λ l. record {
-  those = symbol CloseBracket ∷ [];
-  rest = next p t v;
-  follows = s;
-  at = refl;
-  more = record { more = []; tree = []; sentence = h };
-  local = λ i K f w y b c g al. pass K f w y b c g (next-denied b al);
-  fits = λ i. absurd (omega arith);
-}
-end-ends T R u (end n) a h s pass = tt
-end-ends T R u (bad k p) a h s pass = λ l. record {
-  those = symbol CloseBracket ∷ [];
-  rest = bad k p;
-  follows = s;
-  at = (refl, refl);
-  more = record { more = []; tree = []; sentence = h };
-  local = λ i K f w y b c g al. pass K f w y b c g (bad-denied b al);
-  fits = λ i. tt;
-}
-
--- ---- the readers
+abbrev StuckA : RunA → Limits → Tokens → Type 0
+StuckA R K y = (g : ℕ) (b : Ad) (n : ℕ) → Denied (R K g y b n)
 
 abbrev definitionsR : RunA
 definitionsR = λ K f u a c. definitionsAt K f u a c
@@ -161,170 +77,206 @@ definitionsR = λ K f u a c. definitionsAt K f u a c
 abbrev behindR : RunA
 behindR = λ K f u a c. behindAt K f u a c
 
-abbrev pub adR : RunA
-adR = λ K f u a c. adAt K u
+-- the readers after a definition's name, and after `]`
+abbrev nameR : List ℕ → RunA
+nameR w = λ K f u a c. wantA (symbol Assign) u (λ x. afterA (conditionalAt K (enough x) x 0 c) (λ e y. behindAt K f y (a ++ record { name = w; expression = e } ∷ []) (c + size e)))
 
-closing : ExtendsA Closes []
-closing = record { more = symbol CloseBracket ∷ []; tree = []; sentence = closes }
+abbrev endR : RunA
+endR = λ K f u a c. endA u a
 
-definitions-close : (K : Limits) (f : ℕ) (w y : Tokens) (b : Ad) (c : ℕ) → Follows w (symbol CloseBracket ∷ []) y → Denied (endA y b) → Denied (definitionsAt K f w b c)
+definitions-close : (K : Limits) (w y : Tokens) → Follows w (symbol CloseBracket ∷ []) y → StuckA endR K y → StuckA definitionsR K w
 unfolding definitionsAt
-definitions-close K zero w y b c g h = tt
-definitions-close K (suc f) w y b c (some none) h = h
+definitions-close K w y f h zero b n = tt
+definitions-close K w y (some none) h (suc g) b n = h g b n
 
-behind-close : (K : Limits) (f : ℕ) (w y : Tokens) (b : Ad) (c : ℕ) → Follows w (symbol CloseBracket ∷ []) y → Denied (endA y b) → Denied (behindAt K f w b c)
+behind-close : (K : Limits) (w y : Tokens) → Follows w (symbol CloseBracket ∷ []) y → StuckA endR K y → StuckA behindR K w
 unfolding definitionsAt
-behind-close K zero w y b c g h = tt
-behind-close K (suc f) w y b c (some none) h = h
+behind-close K w y f h zero b n = tt
+behind-close K w y (some none) h (suc g) b n = h g b n
 
--- neither a definition nor `]`
-definitions-none : (w : Tokens) → InFront (Unlike (symbol CloseBracket)) w → InFront NoWord w → LocalA definitionsR [] w
+definitions-none : (w : Tokens) → InFront (Unlike (symbol CloseBracket)) w → InFront NoWord w → (K : Limits) (y : Tokens) → Alike w y → StuckA definitionsR K y
 unfolding definitionsAt
-definitions-none w i j K zero u y a c g al = tt
-definitions-none w i j K (suc f) u y a c none al =
-    unlike-denied (symbol CloseBracket) u _ _ (front-alike (Unlike (symbol CloseBracket)) al i) (no-word-denied u _ _ (front-alike NoWord al j) (misfit-denied u))
+definitions-none w i j K y al zero b n = tt
+definitions-none w i j K y al (suc g) b n =
+    unlike-denied (symbol CloseBracket) y _ _ (front-alike (Unlike (symbol CloseBracket)) al i) (no-word-denied y _ _ (front-alike NoWord al j) (misfit-denied y))
 
-definitions-assign : (n : List ℕ) (w : Tokens) → InFront (Unlike (symbol Assign)) w → LocalA definitionsR (word n ∷ []) w
+definitions-name : (w : List ℕ) (K : Limits) (u y : Tokens) → Follows u (word w ∷ []) y → StuckA (nameR w) K y → StuckA definitionsR K u
 unfolding definitionsAt
-definitions-assign n w i K zero u y a c g al = tt
-definitions-assign n w i K (suc f) u y a c (some {p = p} none) al = admit-denied K n p a _ (no-want-denied (symbol Assign) y _ (front-alike (Unlike (symbol Assign)) al i))
+definitions-name w K u y f h zero b n = tt
+definitions-name w K u y (some {p = p} none) h (suc g) b n = admit-denied K w p b _ (h g b n)
 
-definitions-stuck : (n : List ℕ) (x : Tokens) (k p : ℕ) (s : Stops (conditionalR 0) 0 0 [] x k p) → k < 8 → LocalA definitionsR (word n ∷ symbol Assign ∷ s .those) (s .rest)
+name-none : (w : List ℕ) (v : Tokens) → InFront (Unlike (symbol Assign)) v → (K : Limits) (y : Tokens) → Alike v y → StuckA (nameR w) K y
+name-none w v i K y al g b n = no-want-denied (symbol Assign) y _ (front-alike (Unlike (symbol Assign)) al i)
+
+name-inside : (w : List ℕ) (K : Limits) (u y : Tokens) → Follows u (symbol Assign ∷ []) y → Stuck (conditionalR 0) K y → StuckA (nameR w) K u
+name-inside w K u y (some none) h g b n = stuck-denied (end 0) (conditionalAt K (enough y) y 0 n) _ (h (enough y) n)
+
+name-behind : (w : List ℕ) (x z : Tokens) (c : ℕ) (e : Expr) (g : Got (conditionalR 0) 0 0 [] x c e z) (K : Limits) (u y : Tokens) → Follows u (symbol Assign ∷ g .those) y → Alike z y → StuckA behindR K y → StuckA (nameR w) K u
+name-behind w x z c e g K u y (some {u = v} f) al h i b n = done-denied e y (conditionalAt K (enough v) v 0 n) _ (g .local K (enough v) v y n f al) (h i (b ++ record { name = w; expression = e } ∷ []) (n + size e))
+
+behind-none : (w : Tokens) → InFront (Unlike (symbol Semicolon)) w → InFront (Unlike (symbol CloseBracket)) w → (K : Limits) (y : Tokens) → Alike w y → StuckA behindR K y
 unfolding definitionsAt
-definitions-stuck n x k p s h K zero u y a c g al = tt
-definitions-stuck n x k p s h K (suc f) u y a c (some {p = q} (some {u = v} g)) al = admit-denied K n q a _ (stuck-denied y (conditionalAt K (enough v) v 0 c) _ (s .local h K (enough v) v y c g al))
+behind-none w i j K y al zero b n = tt
+behind-none w i j K y al (suc g) b n =
+    unlike-denied (symbol Semicolon) y _ _ (front-alike (Unlike (symbol Semicolon)) al i) (unlike-denied (symbol CloseBracket) y _ _ (front-alike (Unlike (symbol CloseBracket)) al j) (misfit-denied y))
 
-definitions-behind : (n : List ℕ) (x z : Tokens) (e : Expr) (g : Got (conditionalR 0) 0 0 [] x e z) (k p : ℕ) (s : StopsA Behind behindR z k p) → k < 8 → LocalA definitionsR (word n ∷ symbol Assign ∷ (g .those ++ s .those)) (s .rest)
+behind-semicolon : (K : Limits) (w y : Tokens) → Follows w (symbol Semicolon ∷ []) y → StuckA definitionsR K y → StuckA behindR K w
 unfolding definitionsAt
-definitions-behind n x z e g k p s h K zero u y a c i al = tt
-definitions-behind n x z e g k p s h K (suc f) u y a c (some {p = q} (some {u = v} i)) al =
-    let j = follows-split (g .those) i in
-    let b : Ad = a ++ record { name = n; expression = e } ∷ [] in
-    admit-denied K n q a _ (done-denied e (j .0) (conditionalAt K (enough v) v 0 c) _ (g .local K (enough v) v (j .0) c (j .1) (alike-front (s .follows) (j .2) al)) (s .local h K f (j .0) y b (c + size e) (j .2) al))
+behind-semicolon K w y f h zero b n = tt
+behind-semicolon K w y (some none) h (suc g) b n = h g b n
 
-behind-none : (w : Tokens) → InFront (Unlike (symbol Semicolon)) w → InFront (Unlike (symbol CloseBracket)) w → LocalA behindR [] w
-unfolding definitionsAt
-behind-none w i j K zero u y a c g al = tt
-behind-none w i j K (suc f) u y a c none al =
-    unlike-denied (symbol Semicolon) u _ _ (front-alike (Unlike (symbol Semicolon)) al i) (unlike-denied (symbol CloseBracket) u _ _ (front-alike (Unlike (symbol CloseBracket)) al j) (misfit-denied u))
-
-behind-semicolon : (z : Tokens) (k p : ℕ) (s : StopsA Closes definitionsR z k p) → k < 8 → LocalA behindR (symbol Semicolon ∷ s .those) (s .rest)
-unfolding definitionsAt
-behind-semicolon z k p s h K zero u y a c g al = tt
-behind-semicolon z k p s h K (suc f) u y a c (some {u = v} g) al = s .local h K f v y a c g al
-
-ad-none : (w : Tokens) → InFront (Unlike (symbol OpenBracket)) w → LocalA adR [] w
+ad-none : (w : Tokens) → InFront (Unlike (symbol OpenBracket)) w → (K : Limits) (y : Tokens) → Alike w y → Denied (adAt K y)
 unfolding adAt
-ad-none w i K f u y a c none al = no-want-denied (symbol OpenBracket) u _ (front-alike (Unlike (symbol OpenBracket)) al i)
+ad-none w i K y al = no-want-denied (symbol OpenBracket) y _ (front-alike (Unlike (symbol OpenBracket)) al i)
 
-ad-open : (z : Tokens) (k p : ℕ) (s : StopsA Closes definitionsR z k p) → k < 8 → LocalA adR (symbol OpenBracket ∷ s .those) (s .rest)
+ad-open : (K : Limits) (w y : Tokens) → Follows w (symbol OpenBracket ∷ []) y → StuckA definitionsR K y → Denied (adAt K w)
 unfolding adAt
-ad-open z k p s h K f u y a c (some {u = v} g) al = s .local h K (enough v) v y [] 0 g al
+ad-open K w y (some none) h = h (enough y) [] 0
 
--- a definition of which the name is read, one whose expression is begun, and one with more behind it
-named : (n : List ℕ) → ExtendsA Closes (word n ∷ [])
-named n = record { more = symbol Assign ∷ constant undefined ∷ symbol CloseBracket ∷ []; tree = record { name = n; expression = literal undefined } ∷ []; sentence = one-more (undefined-reads 8 0 0 refl) behind-last }
+-- ---- the first run
 
-inside : (n : List ℕ) (ts : List Token) → Extends 0 0 ts → ExtendsA Closes (word n ∷ symbol Assign ∷ ts)
-inside n ts x = record {
-  more = x .more ++ symbol CloseBracket ∷ [];
-  tree = record { name = n; expression = x .tree } ∷ [];
-  sentence = subst (λ (l : List Token). Closes (word n ∷ symbol Assign ∷ l) (record { name = n; expression = x .tree } ∷ [])) (append-assoc ts (x .more) (symbol CloseBracket ∷ [])) (one-more (x .reads) behind-last);
-}
+abbrev pub AllA : (ℕ → ℕ → Type 0) → Answer → Type 0
+AllA R (accepted a) = Unit {0}
+AllA R (denied k p) = 0 < k → R k p
 
-behind-it : (n : List ℕ) (e : Expr) (ts us : List Token) → Reads 0 0 ts e → ExtendsA Behind us → ExtendsA Closes (word n ∷ symbol Assign ∷ (ts ++ us))
-behind-it n e ts us r x = record {
-  more = x .more;
-  tree = record { name = n; expression = e } ∷ x .tree;
-  sentence = subst (λ (l : List Token). Closes (word n ∷ symbol Assign ∷ l) (record { name = n; expression = e } ∷ x .tree)) (sym (append-assoc ts us (x .more))) (one-more r (x .sentence));
-}
+module _ (R : ℕ → ℕ → Type 0) where
+  misfit-ends : (u : Tokens) → Off R u → AllA R (misfit denied u)
+  misfit-ends (next p t u) f = λ l. f
+  misfit-ends (end n) f = λ l. f
+  misfit-ends (bad k p) f = λ l. f
 
-behind-closes : (ts : List Token) → ExtendsA Closes ts → ExtendsA Behind (symbol Semicolon ∷ ts)
-behind-closes ts x = record { more = x .more; tree = x .tree; sentence = behind-more (x .sentence) }
+  token-ends : (x : Token) → 1 ≤ codeOf x → (u : Tokens) (then : ℕ → Tokens → Answer) (otherwise : Unit {0} → Answer) →
+      ((p : ℕ) (v : Tokens) → Step u p x v → AllA R (then p v)) → (InFront (Unlike x) u → AllA R (otherwise tt)) → AllA R (onToken x u then otherwise)
+  token-ends x hx (next p t u) then otherwise f g = on-pick (AllA R) (isToken x t) _ otherwise (λ b. f p u (ap (λ (y : Token). next p y u) (is-token x t hx b))) (λ b. g b)
+  token-ends x hx (end n) then otherwise f g = g tt
+  token-ends x hx (bad k p) then otherwise f g = g tt
 
-ad-closes : (ts : List Token) → ExtendsA Closes ts → ExtendsA IsAd (symbol OpenBracket ∷ ts)
-ad-closes ts x = record { more = x .more; tree = x .tree; sentence = closes-ad (x .sentence) }
+  want-ends : (x : Token) → 1 ≤ codeOf x → (u : Tokens) (go : Tokens → Answer) → ((p : ℕ) (v : Tokens) → Step u p x v → AllA R (go v)) → (InFront (Unlike x) u → Off R u) → AllA R (wantA x u go)
+  want-ends x hx u go f g = token-ends x hx u _ _ f (λ e. misfit-ends u (g e))
 
-module _ (L : Limits) where
+  word-ends : (u : Tokens) (then : ℕ → List ℕ → Tokens → Answer) (otherwise : Unit {0} → Answer) →
+      ((p : ℕ) (w : List ℕ) (v : Tokens) → Step u p (word w) v → AllA R (then p w v)) → (InFront NoWord u → AllA R (otherwise tt)) → AllA R (onWord u then otherwise)
+  word-ends (next p (word w) u) then otherwise f g = f p w u refl
+  word-ends (next p (constant l) u) then otherwise f g = g tt
+  word-ends (next p (operator j) u) then otherwise f g = g tt
+  word-ends (next p (symbol s) u) then otherwise f g = g tt
+  word-ends (end n) then otherwise f g = g tt
+  word-ends (bad k p) then otherwise f g = g tt
+
+  admit-ends : (w : List ℕ) (p : ℕ) (a : Ad) (go : Unit {0} → Answer) → (defined w a ≡ true → R 8 p) → (defined w a ≡ false → maxDefinitions ≤ length a → R 9 p) → (defined w a ≡ false → length a < maxDefinitions → AllA R (go tt)) → AllA R (admit limits w p a go)
+  admit-ends w p a go r s f =
+      on-pick (AllA R) (defined w a) _ _ (λ t l. r t)
+      (λ t. on-pick (AllA R) (leb maxDefinitions (length a)) _ go (λ b l. s t (leb-true maxDefinitions (length a) b)) (λ b. f t (leb-false maxDefinitions (length a) b)))
+
+  after-ends : (P : Expr → Tokens → Type 0) (x : Parsed) (go : Expr → Tokens → Answer) → All P R x → ((e : Expr) (u : Tokens) → P e u → AllA R (go e u)) → AllA R (afterA x go)
+  after-ends P (ok e u) go h f = f e u h
+  after-ends P (refused k p) go h f = h
+
+-- the tokens ts end an ad: after `[` or `;`, after a definition, and after `]`
+abbrev Closing : ℕ → List Token → Type 0
+Closing n ts = (a : Ad) × Closes n ts a
+
+abbrev Going : ℕ → List Token → Type 0
+Going n ts = (a : Ad) × Behind n ts a
+
+abbrev Ended : ℕ → List Token → Type 0
+Ended n ts = ts ≡ []
+
+-- what may follow a definition's name
+abbrev idle : List Token
+idle = symbol Assign ∷ constant undefined ∷ symbol CloseBracket ∷ []
+
+module _ (whole : Tokens) where
+  end-ends : {r : Role} {pre : List Token} {c : ℕ} (v : Tokens) (a : Ad) → Here whole Ended (StuckA endR) r pre v c → AllA (Refusal whole) (endA v a)
+  end-ends (next p t u) a h = λ l. misfit-at whole (next p t u) h (λ K y al g b n. next-denied b al)
+  end-ends (end n) a h = tt
+  end-ends (bad k p) a h = λ l. misfit-at whole (bad k p) h (λ K y al g b n. bad-denied b al)
+
+  -- a definition's name w after the definitions a
+  module _ (pre : List Token) (u v : Tokens) (c p : ℕ) (a : Ad) (w : List ℕ) (h : Here whole Closing (StuckA definitionsR) defines pre u c) (named : namesOf pre ≡ names a) (st : Step u p (word w) v) where
+    name-names : namesOf (pre ++ word w ∷ []) ≡ names a ++ w ∷ []
+    unfolding namesIn
+    name-names = names-on whole h (word w ∷ []) ∙ rw named refl
+
+    name-shallow : Shallow (pre ++ word w ∷ [])
+    name-shallow = cut maxLevel pre (word w ∷ []) idle (h .grow maxLevel (omega arith) (word w ∷ idle) (_, one-more {us = symbol CloseBracket ∷ []} (undefined-reads (omega arith)) behind-last))
+
+    name-twice : defined w a ≡ true → Refusal whole 8 p
+    name-twice t = refuse whole h st (twice name-shallow (λ d. true≢false (sym (taken-last a w t) ∙ (ap repeats (sym name-names) ∙ d))))
+
+    module _ (t : defined w a ≡ false) where
+      name-distinct : DistinctNames (pre ++ word w ∷ [])
+      name-distinct = rw name-names (fresh-last a w (rw named at (h .kept .distinct)) t)
+
+      name-length : length (namesOf (pre ++ word w ∷ [])) ≡ length a + 1
+      name-length = rw name-names (length-append (names a) (w ∷ []) ∙ rw (names-length a) refl)
+
+      name-many : maxDefinitions ≤ length a → Refusal whole 9 p
+      name-many l = refuse whole h st (many name-shallow name-distinct (λ f. omega (arith, f .few-definitions, name-length)))
+
+      name-here : length a < maxDefinitions → Here whole (λ n ts. Closing n (word w ∷ ts)) (StuckA (nameR w)) refers (pre ++ word w ∷ []) v c
+      unfolding nodesIn behind
+      name-here l =
+          let full = room-left whole h in
+          move whole h (word w ∷ []) (step st) name-distinct (record { few-definitions = omega (arith, name-length); few-nodes = omega (arith, nodes-on whole h (word w ∷ [])) }) refl (omega arith)
+          idle (_, one-more {us = symbol CloseBracket ∷ []} (undefined-reads (omega arith)) behind-last) (λ n l ts x. h .grow n l (word w ∷ ts) x) (λ K i y f al x. definitions-name w K i y f x)
+
   mutual
     unfolding definitionsAt
 
-    definitions-ends : (f : ℕ) (u : Tokens) (a : Ad) (c : ℕ) → AllA (StopsA Closes definitionsR u) (definitionsAt L f u a c)
-    definitions-ends zero u a c = λ l. absurd (omega arith)
-    definitions-ends (suc f) u a c =
-        let R = StopsA Closes definitionsR u in
-        token-ends R (symbol CloseBracket) (symbol-coded CloseBracket) u _ _
-        (λ p v st. end-ends Closes definitionsR u v a closes (st .step) definitions-close)
-        (λ i. word-ends R u _ _
-        (λ p n v st. admit-ends R L n p a _
-        (record { those = []; rest = u; follows = none; at = st .at 8; more = closing; local = λ h. absurd (omega arith); fits = λ h. step-in (λ t. ExtendsA Closes (t ∷ [])) (st .step) (named n) })
-        (record { those = []; rest = u; follows = none; at = st .at 9; more = closing; local = λ h. absurd (omega arith); fits = λ h. step-in (λ t. ExtendsA Closes (t ∷ [])) (st .step) (named n) })
-        (want-ends R (symbol Assign) (symbol-coded Assign) v _
-        (λ q x st′. after-ends R (Got (conditionalR 0) 0 0 [] x) (Stops (conditionalR 0) 0 0 [] x) (conditionalAt L (enough x) x 0 c) _ (conditional-ends L (enough x) x 0 c)
-        (λ k r s. record {
-          those = word n ∷ symbol Assign ∷ s .those;
-          rest = s .rest;
-          follows = follows-append (st .step) (follows-append (st′ .step) (s .follows));
-          at = s .at;
-          more = inside n (s .those) (s .more);
-          local = definitions-stuck n x k r s;
-          fits = λ h. in-token _ _ (s .rest) (λ t. inside n (s .those ++ t ∷ [])) (s .fits h);
-        })
-        (λ e z g. let D : Ad = a ++ record { name = n; expression = e } ∷ [] in
-        all-ends R (StopsA Behind behindR z) (behindAt L f z D (c + size e)) (behind-ends f z D (c + size e))
-        (λ k r s. record {
-          those = word n ∷ symbol Assign ∷ (g .those ++ s .those);
-          rest = s .rest;
-          follows = follows-append (st .step) (follows-append (st′ .step) (follows-append (g .follows) (s .follows)));
-          at = s .at;
-          more = behind-it n e (g .those) (s .those) (g .reads) (s .more);
-          local = definitions-behind n x z e g k r s;
-          fits = λ h. in-token _ _ (s .rest) (λ t y. subst (λ (l : List Token). ExtendsA Closes (word n ∷ symbol Assign ∷ l)) (sym (append-assoc (g .those) (s .those) (t ∷ []))) (behind-it n e (g .those) (s .those ++ t ∷ []) (g .reads) y)) (s .fits h);
-        })))
-        (λ j k r at fit. record {
-          those = word n ∷ [];
-          rest = v;
-          follows = st .step;
-          at = at;
-          more = named n;
-          local = λ h. definitions-assign n v j;
-          fits = fit _;
-        })))
-        (λ j. misfit-ends R u (λ k p at fit. record { those = []; rest = u; follows = none; at = at; more = closing; local = λ h. definitions-none u i j; fits = fit _ })))
+    definitions-ends : (f : ℕ) (u : Tokens) (a : Ad) (c : ℕ) (pre : List Token) → Here whole Closing (StuckA definitionsR) defines pre u c → namesOf pre ≡ names a → AllA (Refusal whole) (definitionsAt limits f u a c)
+    definitions-ends zero u a c pre h named = λ l. absurd (omega arith)
+    definitions-ends (suc f) u a c pre h named =
+        token-ends (Refusal whole) (symbol CloseBracket) (symbol-coded CloseBracket) u _ _
+        (λ p v st. end-ends v a (move-token whole h (symbol CloseBracket) st refl refl [] refl (λ n l ts x. rw x (h .grow n l (symbol CloseBracket ∷ []) ([], closes))) (λ K i y f al x. definitions-close K i y f x)))
+        (λ i. word-ends (Refusal whole) u _ _
+        (λ p w v st. admit-ends (Refusal whole) w p a _ (name-twice pre u v c p a w h named st) (name-many pre u v c p a w h named st)
+        (λ t l. let h′ = name-here pre u v c p a w h named st t l in
+        let assign : Plain (symbol Assign ∷ []) 0 = plain-one (symbol Assign) 0 refl refl refl in
+        want-ends (Refusal whole) (symbol Assign) (symbol-coded Assign) v _
+        (λ q x st′. after-ends (Refusal whole) (Got (conditionalR 0) 0 0 [] x c) (conditionalAt limits (enough x) x 0 c) _
+        (conditional-ends whole (enough x) x 0 c ((pre ++ word w ∷ []) ++ symbol Assign ∷ [])
+        (go-on whole h′ (symbol Assign ∷ []) (step st′) assign (omega arith) (room-left whole h′) (constant undefined ∷ []) (literal undefined, undefined-reads (omega arith))
+        (λ n l ts x. cut n (pre ++ word w ∷ []) (symbol Assign ∷ ts) (symbol CloseBracket ∷ []) (h′ .grow n l (symbol Assign ∷ (ts ++ symbol CloseBracket ∷ [])) (_, one-more (x .1) behind-last)))
+        (λ K i y f al x. name-inside w K i y f x)))
+        (λ e z g. let D : Definition = record { name = w; expression = e } in
+        let ys : List Token = symbol Assign ∷ g .those in
+        let q : Plain ys (size e) = plain-append assign (reads-plain (g .reads)) (omega arith) in
+        behind-ends f z (a ++ D ∷ []) (c + size e) ((pre ++ word w ∷ []) ++ ys)
+        (go-on whole h′ ys (follows-append (step st′) (g .follows)) q refl (omega (arith, g .few, reads-plain (g .reads) .count)) (symbol CloseBracket ∷ []) ([], behind-last)
+        (λ n l ts x. h′ .grow n l (ys ++ ts) (_, one-more (reads-more l (g .reads)) (x .1))) (λ K i y j al k. name-behind w x z c e g K i y j al k))
+        (names-on whole h′ ys ∙ rw (q .nameless, append-nil, name-names pre u v c p a w h named st, names-last a D) refl)))
+        (λ j. misfit-at whole v h′ (name-none w v j))))
+        (λ j. misfit-ends (Refusal whole) u (misfit-at whole u h (definitions-none u i j))))
 
-    behind-ends : (f : ℕ) (u : Tokens) (a : Ad) (c : ℕ) → AllA (StopsA Behind behindR u) (behindAt L f u a c)
-    behind-ends zero u a c = λ l. absurd (omega arith)
-    behind-ends (suc f) u a c =
-        let R = StopsA Behind behindR u in
-        token-ends R (symbol Semicolon) (symbol-coded Semicolon) u _ _
-        (λ p v st. all-ends R (StopsA Closes definitionsR v) (definitionsAt L f v a c) (definitions-ends f v a c)
-        (λ k r s. record {
-          those = symbol Semicolon ∷ s .those;
-          rest = s .rest;
-          follows = follows-append (st .step) (s .follows);
-          at = s .at;
-          more = behind-closes (s .those) (s .more);
-          local = behind-semicolon v k r s;
-          fits = λ h. in-token _ _ (s .rest) (λ t. behind-closes (s .those ++ t ∷ [])) (s .fits h);
-        }))
-        (λ i. token-ends R (symbol CloseBracket) (symbol-coded CloseBracket) u _ _
-        (λ p v st. end-ends Behind behindR u v a behind-last (st .step) behind-close)
-        (λ j. misfit-ends R u (λ k p at fit. record { those = []; rest = u; follows = none; at = at; more = record { more = symbol CloseBracket ∷ []; tree = []; sentence = behind-last }; local = λ h. behind-none u i j; fits = fit _ })))
+    behind-ends : (f : ℕ) (u : Tokens) (a : Ad) (c : ℕ) (pre : List Token) → Here whole Going (StuckA behindR) refers pre u c → namesOf pre ≡ names a → AllA (Refusal whole) (behindAt limits f u a c)
+    behind-ends zero u a c pre h named = λ l. absurd (omega arith)
+    behind-ends (suc f) u a c pre h named =
+        token-ends (Refusal whole) (symbol Semicolon) (symbol-coded Semicolon) u _ _
+        (λ p v st. definitions-ends f v a c (pre ++ symbol Semicolon ∷ [])
+        (move-token whole h (symbol Semicolon) st refl refl (symbol CloseBracket ∷ []) ([], closes) (λ n l ts x. h .grow n l (symbol Semicolon ∷ ts) (x .0, behind-more (x .1))) (λ K i y f al x. behind-semicolon K i y f x))
+        (same-names whole h (symbol Semicolon) refl ∙ named))
+        (λ i. token-ends (Refusal whole) (symbol CloseBracket) (symbol-coded CloseBracket) u _ _
+        (λ p v st. end-ends v a (move-token whole h (symbol CloseBracket) st refl refl [] refl (λ n l ts x. rw x (h .grow n l (symbol CloseBracket ∷ []) ([], behind-last))) (λ K i y f al x. behind-close K i y f x)))
+        (λ j. misfit-ends (Refusal whole) u (misfit-at whole u h (behind-none u i j))))
 
-  -- WHERE THE READER OF ADS STOPS: the tokens in front can become an ad, and a refusal below 8 comes of these tokens and the next alone
-  pub ad-ends : (u : Tokens) → AllA (StopsA IsAd adR u) (adAt L u)
-  unfolding adAt
-  ad-ends u =
-      let R = StopsA IsAd adR u in
-      want-ends R (symbol OpenBracket) (symbol-coded OpenBracket) u _
-      (λ p v st. all-ends R (StopsA Closes definitionsR v) (definitionsAt L (enough v) v [] 0) (definitions-ends (enough v) v [] 0)
-      (λ k r s. record {
-        those = symbol OpenBracket ∷ s .those;
-        rest = s .rest;
-        follows = follows-append (st .step) (s .follows);
-        at = s .at;
-        more = ad-closes (s .those) (s .more);
-        local = ad-open v k r s;
-        fits = λ h. in-token _ _ (s .rest) (λ t. ad-closes (s .those ++ t ∷ [])) (s .fits h);
-      }))
-      (λ i k p at fit. record { those = []; rest = u; follows = none; at = at; more = record { more = symbol OpenBracket ∷ symbol CloseBracket ∷ []; tree = []; sentence = ad-empty }; local = λ h. ad-none u i; fits = fit _ })
+  start : Here whole (λ n ts. (a : Ad) × AdTo n ts a) (λ K y. Denied (adAt K y)) refers [] whole 0
+  unfolding nodesIn namesIn behind repeats
+  start = record {
+    follows = none;
+    kept = record { shallow = (symbol OpenBracket ∷ symbol CloseBracket ∷ [], [], ad-empty); distinct = refl; few = record { few-definitions = omega arith; few-nodes = omega arith } };
+    role = refl;
+    counted = refl;
+    grow = λ n l ts x. ([], x .0, rw (append-nil ts) (x .1));
+    leads = λ K w y f al x. subst (λ (z : Tokens). Denied (adAt K z)) (sym (follows-none f)) x;
+  }
+
+  -- EVERY REFUSAL OF THE READER IS ONE OF DOCUMENT 01
+  pub ad-ends : AllA (Refusal whole) (adAt limits whole)
+  unfolding adAt namesIn names
+  ad-ends =
+      want-ends (Refusal whole) (symbol OpenBracket) (symbol-coded OpenBracket) whole _
+      (λ p v st. definitions-ends (enough v) v [] 0 (symbol OpenBracket ∷ [])
+      (move-token whole start (symbol OpenBracket) st refl refl (symbol CloseBracket ∷ []) ([], closes) (λ n l ts x. start .grow n l (symbol OpenBracket ∷ ts) (x .0, closes-ad (x .1))) (λ K i y f al x. ad-open K i y f x))
+      refl)
+      (λ i. misfit-at whole whole start (ad-none whole i))

@@ -6,7 +6,6 @@ use mathlib.Core.Bool.{false}
 use mathlib.Core.List.{List, [], _∷_, _++_}
 use lib.Dec.{leb, eqb}
 use borrow.Author.Tests.{eq-eqb, le-leb}
-use Rattle.syntax.specs.Bounds.{maxLevel}
 use Rattle.syntax.specs.Tree.{Literal, Expr}
 use Rattle.syntax.specs.Token.{Token, word, constant, operator, symbol, Tokens, next, end, bad}
 use Rattle.syntax.specs.Grammar.{bindsOf, unaryToken, Follows, none, some}
@@ -90,11 +89,11 @@ module _ (o : Outcome) (w : Tokens) where
   after-done e v (ok a y) go h g = subst (λ (z : Tokens). Meets o w (go a z)) (sym (h .1)) (subst (λ (b : Expr). Meets o w (go b v)) (sym (h .0)) g)
   after-done e v (refused k p) go h g = tt
 
-  pub level-meets : (d p : ℕ) (go : Unit {0} → Parsed) → Meets o w (go tt) → Meets o w (level d p go)
-  level-meets d p go h = on-pick (Meets o w) (leb maxLevel d) _ go (λ _. tt) (λ _. h)
+  pub level-meets : (K : Limits) (d p : ℕ) (go : Unit {0} → Parsed) → Meets o w (go tt) → Meets o w (level K d p go)
+  level-meets K d p go h = on-pick (Meets o w) (leb (K .most-levels) d) _ go (λ _. tt) (λ _. h)
 
-  pub level-deep : (d p : ℕ) (go : Unit {0} → Parsed) → maxLevel ≤ d → Meets o w (level d p go)
-  level-deep d p go h = rw (le-leb maxLevel d h) tt
+  pub level-deep : (K : Limits) (d p : ℕ) (go : Unit {0} → Parsed) → K .most-levels ≤ d → Meets o w (level K d p go)
+  level-deep K d p go h = rw (le-leb (K .most-levels) d h) tt
 
   pub room-meets : (K : Limits) (c p : ℕ) (go : Unit {0} → Parsed) → Meets o w (go tt) → Meets o w (room K c p go)
   room-meets K c p go h = on-pick (Meets o w) (leb (K .most-nodes) c) _ go (λ _. tt) (λ _. h)

@@ -16,10 +16,9 @@ use Rattle.syntax.specs.Token.{Token, word, constant, operator, symbol, Tokens,
 use Rattle.syntax.specs.Grammar.{Reads, reads-literal, reads-own, reads-other, reads-parentheses, reads-unary, reads-binary, reads-conditional, reads-tighter, Defines, defines-one, defines-more, IsAd, ad-empty, ad-plain, ad-trailing, Follows, none, some}
 use Rattle.syntax.specs.Reader.{accepted, parse}
 use Rattle.syntax.specs.Laws.Accepts.{accepts}
-use Rattle.syntax.specs.Laws.Codes.{on-pick}
+use Rattle.syntax.specs.Laws.Codes.{on-pick, both}
 use Rattle.syntax.specs.declared.Symbol.the-variants.{Question, Colon, CloseParenthesis, CloseBracket, Semicolon}
 use Rattle.ad.specs.Layout.{literalBytes, exprBytes, adBytes}
-use Rattle.round_trip.specs.Laws.Fronts.{both}
 use Rattle.round_trip.specs.Laws.Written.{digit-front}
 
 -- the bytes that a token leaves in an ad's memory

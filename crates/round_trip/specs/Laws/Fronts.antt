@@ -16,18 +16,11 @@ use Rattle.syntax.specs.Bounds.{nameBytes, stringBytes, maxInteger, realDigits}
 use Rattle.syntax.specs.Tree.{integer, real, string}
 use Rattle.syntax.specs.Token.{Token, word, constant, pick, good, frontOf, Spelling, reserved, wordIn, nameFront, valueFrom, valueOf, fractionOf, integerFront, realFront, numberFront, closed, escapeOf, bodyOf, frontToken}
 use Rattle.syntax.specs.Print.{digits, decimal, lastDigits, escaped, escapedAll}
+use Rattle.syntax.specs.Laws.Codes.{both, neither}
 use Rattle.lexemes.specs.Lexeme.{every, isOneOf, isName, inString, isString, isReal}
 use Rattle.lexemes.specs.Laws.Digits.{decimal-short, length-last}
 
--- ---- tests
-
-pub both : (a b : Bool) → (a && b) ≡ true → (a ≡ true) × (b ≡ true)
-both true b h = (refl, h)
-both false b h = absurd (true≢false (sym h))
-
-pub neither : (a b : Bool) → (a || b) ≡ false → (a ≡ false) × (b ≡ false)
-neither true b h = absurd (true≢false h)
-neither false b h = (refl, h)
+-- ---- where a name or a number ends
 
 -- what a name or a number does not go on with
 unfoldable pub Ends : List ℕ → Type 0

@@ -15,6 +15,7 @@ use Rattle.syntax.specs.Tree.{Literal, undefined, error, boolean, integer, real
 use Rattle.syntax.specs.Token.{Token, word, constant, operator, symbol, Tokens, next, end, pick, good, frontOf, reserved, wordIn, nameFront, numberFront, symbolIn, begins, spellings, frontToken, tokensFrom, tokens}
 use Rattle.syntax.specs.Grammar.{bindsOf, unaryToken, Follows, none, some, Whole}
 use Rattle.syntax.specs.Print.{decimal, lastDigits, escapedAll, literalText, binaryText, unaryText, binds, wrap, referenceText, printed, definitionText, definitionsText, printedAd}
+use Rattle.syntax.specs.Laws.Codes.{both}
 use Rattle.syntax.specs.Laws.Sound.{follows-append}
 use Rattle.syntax.specs.declared.Binary.{Binary}
 use Rattle.syntax.specs.declared.Binary.the-variants.{Or, And, Equal, NotEqual, Is, Isnt, Less, LessOrEqual, Greater, GreaterOrEqual, Add, Subtract, Multiply, Divide, Remainder}
@@ -25,7 +26,7 @@ use Rattle.lexemes.specs.Lexeme.{every, isName, isReal, isString, isLiteral}
 use Rattle.well_formed.specs.WellFormed.{isWritable, areWritable}
 use Rattle.lexemes.specs.Laws.Digits.{length-last}
 use Rattle.round_trip.specs.Printed.{wrapTokens, referenceTokens, exprTokens, definitionTokens, adTokens}
-use Rattle.round_trip.specs.Laws.Fronts.{both, Ends, Without, ends-name, front-all, IsName, name-parts, name-token, starts-solid, Number, decimal-number, integer-front, real-front, real-parts, digit-none, number-token, string-token}
+use Rattle.round_trip.specs.Laws.Fronts.{Ends, Without, ends-name, front-all, IsName, name-parts, name-token, starts-solid, Number, decimal-number, integer-front, real-front, real-parts, digit-none, number-token, string-token}
 
 -- the bytes l are the tokens ts and then the bytes m, wherever they stand
 pub record Lexes (l : List ℕ) (ts : List Token) (m : List ℕ) : Type 0 where

@@ -13,6 +13,7 @@ use Rattle.syntax.specs.Token.{Token, word, operator, symbol}
 use Rattle.syntax.specs.Grammar.{bindsOf, unaryToken}
 use Rattle.syntax.specs.Reader.{accepted, parse}
 use Rattle.syntax.specs.Print.{binaryText, unaryText, binds, wrap, printed, definitionText, definitionsText}
+use Rattle.syntax.specs.Laws.Codes.{both}
 use Rattle.syntax.specs.Laws.Accepts.{accepts}
 use Rattle.syntax.specs.declared.Binary.{Binary}
 use Rattle.syntax.specs.declared.Unary.{Unary}
@@ -21,7 +22,6 @@ use Rattle.lexemes.specs.Lexeme.{isName}
 use Rattle.well_formed.specs.WellFormed.{isWritable, areWritable}
 use Rattle.round_trip.specs.Printed.{wrapTokens, exprTokens, definitionTokens, adTokens, parentheses}
 use Rattle.round_trip.specs.WithoutPair.{WithoutPair, pair-here, pair-operand, pair-left, pair-right, pair-condition, pair-then, pair-else, DefinitionsWithoutPair, pair-in-last, pair-in-first, pair-in-later, inBrackets}
-use Rattle.round_trip.specs.Laws.Fronts.{both}
 use Rattle.round_trip.specs.Laws.Lexing.{NoEqual, Writes, no-equal, wrap-first, unary-first, writes, writes-wrap, writes-unary, writes-binary, writes-conditional, writes-definition, writes-definitions, writes-parted, whole-tokens}
 use Rattle.round_trip.specs.Laws.Parentheses.{append, operator-none, unary-none, symbols-none, wrap-counts, fewest-parentheses, one-list}
 use Rattle.round_trip.specs.Laws.Readable.{accepted-bounded}

@@ -16,11 +16,11 @@ use Rattle.syntax.specs.Bounds.{nameBytes, stringBytes, maxInteger, realDigits}
 use Rattle.syntax.specs.Tree.{Expr, Ad}
 use Rattle.syntax.specs.Token.{Token, word, constant, operator, symbol, Tokens, next, end, bad, Front, good, wrong, Spelling, reserved, wordIn, frontOf, nameFront, integerFront, realFront, numberFront, fractionOf, valueFrom, valueOf, Body, closed, broken, grown, escapeOf, escapedOf, stringOf, bodyOf, begins, symbolIn, spellings, frontToken, onFront, tokensFrom, tokens}
 use Rattle.syntax.specs.Grammar.{Reads, reads-literal, reads-own, reads-other, reads-parentheses, reads-unary, reads-binary, reads-conditional, reads-tighter, Defines, defines-one, defines-more, IsAd, ad-empty, ad-plain, ad-trailing, Follows, none, some}
-use Rattle.syntax.specs.Laws.Codes.{on-pick, on-cond}
+use Rattle.syntax.specs.Laws.Codes.{on-pick, on-cond, both}
 use Rattle.syntax.specs.declared.Symbol.the-variants.{Question, Colon, CloseParenthesis, CloseBracket, Semicolon}
 use Rattle.lexemes.specs.Lexeme.{every, isOneOf, isName, inString, isString, isReal, isLiteral}
 use Rattle.well_formed.specs.WellFormed.{isWritable, areWritable}
-use Rattle.round_trip.specs.Laws.Fronts.{both, every-append}
+use Rattle.round_trip.specs.Laws.Fronts.{every-append}
 
 -- a token whose name or literal a text can write
 unfoldable pub Written : Token → Type 0

@@ -12,7 +12,7 @@ use borrow.Author.Tests.{lt-leb}
 use Rattle.syntax.specs.Bounds.{maxNodes, maxDefinitions}
 use Rattle.syntax.specs.Tree.{Expr, Definition, Ad, size, nodes}
 use Rattle.syntax.specs.Token.{Token, word, symbol, Tokens, next, end, tokens}
-use Rattle.syntax.specs.Grammar.{Reads, Defines, defines-one, defines-more, IsAd, ad-empty, ad-plain, ad-trailing, defined, NewAfter, Within, Follows, none, some, Whole}
+use Rattle.syntax.specs.Grammar.{ReadsTo, DefinesTo, defines-one, defines-more, AdTo, IsAd, ad-empty, ad-plain, ad-trailing, defined, NewAfter, Within, Follows, none, some, Whole}
 use Rattle.syntax.specs.Reader.{ok, accepted, denied, codeOf, Limits, limits, conditionalAt, count, enough, definitionsAt, behindAt, adAt, parse}
 use Rattle.syntax.specs.Laws.Sound.{Number, Marked}
 use Rattle.syntax.specs.Laws.SoundAd.{AllA, Accepted, ad-sound}
@@ -46,7 +46,7 @@ module _ (L : Limits) where
   tail-complete trailing (some (some none)) a c (suc (suc f)) h = refl
 
   -- a definition in front: the reader goes on behind it
-  one-complete : (w : List ℕ) (ts : List Token) (e : Expr) (u v : Tokens) (a : Ad) (c f : ℕ) → Reads 0 0 ts e → Follows u (word w ∷ symbol Assign ∷ ts) v → Stops 0 v → L .taken w a ≡ false → length a < L .most-definitions → c + size e ≤ L .most-nodes → definitionsAt L (suc f) u a c ≡ behindAt L f v (a ++ record { name = w; expression = e } ∷ []) (c + size e)
+  one-complete : (w : List ℕ) (ts : List Token) (e : Expr) (u v : Tokens) (a : Ad) (c f : ℕ) → ReadsTo (L .most-levels) 0 0 ts e → Follows u (word w ∷ symbol Assign ∷ ts) v → Stops 0 v → L .taken w a ≡ false → length a < L .most-definitions → c + size e ≤ L .most-nodes → definitionsAt L (suc f) u a c ≡ behindAt L f v (a ++ record { name = w; expression = e } ∷ []) (c + size e)
   unfolding definitionsAt
   one-complete w ts e u v a c f r (some (some {u = x} g)) st ht ha hc =
       rw (ht, lt-leb (L .most-definitions) (length a) ha, conditional-complete L r x v c (enough x) g st hc (omega (arith, follows-count g))) refl
@@ -56,7 +56,7 @@ module _ (L : Limits) where
   unfolding definitionsAt
   semicolon-complete (some {u = z} g) a c f = (z, g, refl)
 
-  defines-complete : {ts : List Token} {b : Ad} → Defines ts b → (t : List Token) → Tail t → (u : Tokens) (m : ℕ) (a : Ad) (c f : ℕ) → Follows u (ts ++ t) (end m) → length (ts ++ t) < f → c + nodes b ≤ L .most-nodes → length a + length b ≤ L .most-definitions → NewAfter (L .taken) a b → definitionsAt L f u a c ≡ accepted (a ++ b)
+  defines-complete : {ts : List Token} {b : Ad} → DefinesTo (L .most-levels) ts b → (t : List Token) → Tail t → (u : Tokens) (m : ℕ) (a : Ad) (c f : ℕ) → Follows u (ts ++ t) (end m) → length (ts ++ t) < f → c + nodes b ≤ L .most-nodes → length a + length b ≤ L .most-definitions → NewAfter (L .taken) a b → definitionsAt L f u a c ≡ accepted (a ++ b)
   unfolding nodes NewAfter
   defines-complete d t ht u m a c zero g hf hc ha hn = absurd (omega arith)
   defines-complete (defines-one {w} {ts} {e} r) t ht u m a c (suc f) g hf hc ha hn =
@@ -80,7 +80,7 @@ module _ (L : Limits) where
   closed-complete u m (suc f) (some none) h = refl
 
   -- AN AD OF THE GRAMMAR WITHIN THE LIMITS IS ACCEPTED, with its tree
-  pub ad-complete : {ts : List Token} {a : Ad} → IsAd ts a → (u : Tokens) (m : ℕ) → Follows u ts (end m) → nodes a ≤ L .most-nodes → length a ≤ L .most-definitions → NewAfter (L .taken) [] a → adAt L u ≡ accepted a
+  pub ad-complete : {ts : List Token} {a : Ad} → AdTo (L .most-levels) ts a → (u : Tokens) (m : ℕ) → Follows u ts (end m) → nodes a ≤ L .most-nodes → length a ≤ L .most-definitions → NewAfter (L .taken) [] a → adAt L u ≡ accepted a
   unfolding adAt
   ad-complete ad-empty u m (some {u = v} g) hc ha hn = closed-complete v m (enough v) g (omega arith)
   ad-complete (ad-plain {ts} d) u m (some {u = v} g) hc ha hn =

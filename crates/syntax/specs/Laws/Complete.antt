@@ -7,10 +7,9 @@ use mathlib.Core.List.{List, [], _∷_, _++_}
 use lib.ListN.{length, length-append}
 use lib.Dec.{ltb, leb, eqb}
 use borrow.Author.Tests.{ltb-true, ltb-false, eq-eqb, ne-eqb, lt-ltb, lt-leb}
-use Rattle.syntax.specs.Bounds.{maxLevel}
 use Rattle.syntax.specs.Tree.{Literal, own, other, Expr, literal, reference, unary, binary, conditional, size}
 use Rattle.syntax.specs.Token.{Token, word, constant, operator, symbol, Tokens, next, end, bad, pick}
-use Rattle.syntax.specs.Grammar.{bindsOf, unaryToken, Reads, reads-literal, reads-own, reads-other, reads-parentheses, reads-unary, reads-binary, reads-conditional, reads-tighter, Follows, none, some}
+use Rattle.syntax.specs.Grammar.{bindsOf, unaryToken, ReadsTo, reads-literal, reads-own, reads-other, reads-parentheses, reads-unary, reads-binary, reads-conditional, reads-tighter, Follows, none, some}
 use Rattle.syntax.specs.Reader.{Parsed, ok, refused, codeOf, isToken, onToken, onBinary, onUnary, after, level, Limits, room, conditionalAt, binaryAt, restAt, unaryAt, primaryAt}
 use Rattle.syntax.specs.Laws.Codes.{binds-low, operator-coded, is-token}
 use Rattle.syntax.specs.declared.Binary.{Binary}
@@ -103,7 +102,7 @@ open-head Not = refl
 open-head Plus = refl
 open-head Minus = refl
 
-head-8 : {b d : ℕ} {ts : List Token} {e : Expr} → Reads b d ts e → 8 ≤ b → Head ts
+head-8 : {l b d : ℕ} {ts : List Token} {e : Expr} → ReadsTo l b d ts e → 8 ≤ b → Head ts
 head-8 (reads-literal {l = l}) h = literal-head l
 head-8 (reads-own {w = w}) h = word-head w
 head-8 reads-other h = other-head
@@ -143,7 +142,7 @@ module _ (L : Limits) where
 
   -- behind an operator of one operand
   abbrev behind-unary : ℕ → ℕ → ℕ → Unary → ℕ → Tokens → Parsed
-  behind-unary f d c o p v = level d p (λ _. room L c p (λ _. after (unaryAt L f v (d + 1) (c + 1)) (λ a w. ok (unary o a) w)))
+  behind-unary f d c o p v = level L d p (λ _. room L c p (λ _. after (unaryAt L f v (d + 1) (c + 1)) (λ a w. ok (unary o a) w)))
 
   module _ (d : ℕ) (ts : List Token) (e : Expr) where
     cond-loose : CompB 1 d ts e → CompC d ts e
@@ -173,7 +172,7 @@ module _ (L : Limits) where
     comp-primary hd h u v c (suc zero) l st hc hf = absurd (omega arith)
     comp-primary hd h u v c (suc (suc f)) l st hc hf = stop-unary u v ts (behind-unary f d c) (λ _. primaryAt L f u d c) l hd ∙ h u v c f l hc (omega arith)
 
-    comp-unary : (o : Unary) → d < maxLevel → CompB 7 (d + 1) ts e → CompB 7 d (unaryToken o ∷ ts) (unary o e)
+    comp-unary : (o : Unary) → d < L .most-levels → CompB 7 (d + 1) ts e → CompB 7 d (unaryToken o ∷ ts) (unary o e)
     unfolding conditionalAt size
     comp-unary o hd h u v c zero l st hc hf = absurd (omega arith)
     comp-unary o hd h u v c (suc zero) l st hc hf = absurd (omega arith)
@@ -181,9 +180,9 @@ module _ (L : Limits) where
         let x = follows-token l in
         subst (λ (y : Tokens). onUnary y (behind-unary f d c) (λ _. primaryAt L f y d c) ≡ ok (unary o e) v) (sym (x .2))
         (at-unary o (x .0) (x .1) (behind-unary f d c) (λ _. primaryAt L f (next (x .0) (unaryToken o) (x .1)) d c)
-        ∙ rw (lt-leb maxLevel d hd, lt-leb (L .most-nodes) c (omega arith), h (x .1) v (c + 1) (suc f) (x .3) st (omega arith) (omega arith)) refl)
+        ∙ rw (lt-leb (L .most-levels) d hd, lt-leb (L .most-nodes) c (omega arith), h (x .1) v (c + 1) (suc f) (x .3) st (omega arith) (omega arith)) refl)
 
-    comp-parentheses : d < maxLevel → CompC (d + 1) ts e → CompP d (symbol OpenParenthesis ∷ (ts ++ symbol CloseParenthesis ∷ [])) e
+    comp-parentheses : d < L .most-levels → CompC (d + 1) ts e → CompP d (symbol OpenParenthesis ∷ (ts ++ symbol CloseParenthesis ∷ [])) e
     unfolding conditionalAt
     comp-parentheses hd h u v c zero l hc hf = absurd (omega arith)
     comp-parentheses hd h u v c (suc f) l hc hf =
@@ -191,7 +190,7 @@ module _ (L : Limits) where
         let y = follows-split ts (x .3) in
         let z = follows-token (y .2) in
         let s : Stops 0 (y .0) = rw (z .2) ((λ q. absurd (true≢false (sym q))), λ j q. absurd (never j q)) in
-        rw (x .2, lt-leb maxLevel d hd, h (x .1) (y .0) c f (y .1) s hc (omega (arith, length-append ts (symbol CloseParenthesis ∷ []))), z .2)
+        rw (x .2, lt-leb (L .most-levels) d hd, h (x .1) (y .0) c f (y .1) s hc (omega (arith, length-append ts (symbol CloseParenthesis ∷ []))), z .2)
         (ap (ok e) (follows-none (z .3)))
 
   comp-literal : (d : ℕ) (l : Literal) → CompP d (constant l ∷ []) (literal l)
@@ -209,7 +208,7 @@ module _ (L : Limits) where
   comp-other d w u v c zero (some (some (some none))) hc hf = absurd (omega arith)
   comp-other d w u v c (suc f) (some (some (some none))) hc hf = rw (lt-leb (L .most-nodes) c (omega arith)) refl
 
-  comp-conditional : (d : ℕ) (xs ys zs : List Token) (a b e : Expr) → d < maxLevel → CompB 1 d xs a → CompC (d + 1) ys b → CompC (d + 1) zs e → CompC d (xs ++ symbol Question ∷ (ys ++ symbol Colon ∷ zs)) (conditional a b e)
+  comp-conditional : (d : ℕ) (xs ys zs : List Token) (a b e : Expr) → d < L .most-levels → CompB 1 d xs a → CompC (d + 1) ys b → CompC (d + 1) zs e → CompC d (xs ++ symbol Question ∷ (ys ++ symbol Colon ∷ zs)) (conditional a b e)
   unfolding conditionalAt size
   comp-conditional d xs ys zs a b e hd ha hb he u v c zero l st hn hf = absurd (omega arith)
   comp-conditional d xs ys zs a b e hd ha hb he u v c (suc zero) l st hn hf = absurd (omega arith)
@@ -222,7 +221,7 @@ module _ (L : Limits) where
       let len′ = length-append ys (symbol Colon ∷ zs) in
       let stop : Stops 1 (x .0) = rw (t .2) ((λ _. omega arith), λ j q. absurd (never j q)) in
       let stop′ : Stops 0 (y .0) = rw (s .2) ((λ q. absurd (true≢false (sym q))), λ j q. absurd (never j q)) in
-      rw (ha u (x .0) c (suc f) (x .1) stop (omega arith) (omega arith), t .2, lt-leb maxLevel d hd, lt-leb (L .most-nodes) (c + size a) (omega arith), hb (t .1) (y .0) (c + size a + 1) f (y .1) stop′ (omega arith) (omega arith), s .2, he (s .1) v (c + size a + 1 + size b) f (s .3) st (omega arith) (omega arith))
+      rw (ha u (x .0) c (suc f) (x .1) stop (omega arith) (omega arith), t .2, lt-leb (L .most-levels) d hd, lt-leb (L .most-nodes) (c + size a) (omega arith), hb (t .1) (y .0) (c + size a + 1) f (y .1) stop′ (omega arith) (omega arith), s .2, he (s .1) v (c + size a + 1 + size b) f (s .3) st (omega arith) (omega arith))
       refl
 
   spine-binary : (d : ℕ) (j : Binary) (xs ys : List Token) (a b : Expr) → Spine (bindsOf j) d xs a → CompB (bindsOf j + 1) d ys b → Spine (bindsOf j) d (xs ++ operator j ∷ ys) (binary j a b)
@@ -255,7 +254,7 @@ module _ (L : Limits) where
           let i : 7 ≡ b = omega (arith, ltb-false b 7 t) in
           subst (λ (k : ℕ). CompB k d ts e) i (comp-primary d ts e (hd (omega arith)) (y .2 (omega arith)))
 
-  complete : {b d : ℕ} {ts : List Token} {e : Expr} → Reads b d ts e → Comp b d ts e
+  complete : {b d : ℕ} {ts : List Token} {e : Expr} → ReadsTo (L .most-levels) b d ts e → Comp b d ts e
   complete (reads-literal {d} {l}) = ((λ h. absurd (omega arith)), (λ h h′. absurd (omega arith)), (λ h. comp-literal d l), λ h h′. absurd (omega arith))
   complete (reads-own {d} {w}) = ((λ h. absurd (omega arith)), (λ h h′. absurd (omega arith)), (λ h. comp-own d w), λ h h′. absurd (omega arith))
   complete (reads-other {d} {w}) = ((λ h. absurd (omega arith)), (λ h h′. absurd (omega arith)), (λ h. comp-other d w), λ h h′. absurd (omega arith))
@@ -276,5 +275,5 @@ module _ (L : Limits) where
       )
 
   -- an expression of the grammar is read, with its tree
-  pub conditional-complete : {d : ℕ} {ts : List Token} {e : Expr} → Reads 0 d ts e → CompC d ts e
+  pub conditional-complete : {d : ℕ} {ts : List Token} {e : Expr} → ReadsTo (L .most-levels) 0 d ts e → CompC d ts e
   conditional-complete r = complete r .0 refl

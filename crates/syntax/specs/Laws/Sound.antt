@@ -8,10 +8,9 @@ use mathlib.Core.List.{List, [], _∷_, _++_, append-assoc}
 use lib.ListN.{length, length-append}
 use lib.Dec.{ltb, leb, eqb}
 use borrow.Author.Tests.{ltb-true, ltb-false, leb-true, leb-false, eqb-true}
-use Rattle.syntax.specs.Bounds.{maxLevel}
 use Rattle.syntax.specs.Tree.{Literal, Scope, own, other, Expr, literal, reference, unary, binary, conditional, Definition, Ad, size, nodes}
 use Rattle.syntax.specs.Token.{Token, word, constant, operator, symbol, Tokens, next, end, bad, pick}
-use Rattle.syntax.specs.Grammar.{bindsOf, unaryToken, Reads, reads-literal, reads-own, reads-other, reads-parentheses, reads-unary, reads-binary, reads-conditional, reads-tighter, Defines, defines-one, defines-more, IsAd, ad-empty, ad-plain, ad-trailing, Follows, none, some, Whole}
+use Rattle.syntax.specs.Grammar.{bindsOf, unaryToken, ReadsTo, reads-literal, reads-own, reads-other, reads-parentheses, reads-unary, reads-binary, reads-conditional, reads-tighter, Follows, none, some}
 use Rattle.syntax.specs.Reader.{Parsed, ok, refused, Answer, accepted, denied, codeOf, isToken, misfit, onToken, onWord, onLiteral, onBinary, onUnary, after, want, level, Limits, room, conditionalAt, armsAt, binaryAt, restAt, unaryAt, primaryAt, count}
 use Rattle.syntax.specs.Laws.Codes.{on-pick, is-token, symbol-coded, operator-coded, binds-low}
 use Rattle.syntax.specs.declared.Binary.{Binary}
@@ -69,9 +68,9 @@ module _ (n : ℕ) where
     on-all (refused k p) h f = h
 
   module _ (Q : Expr → Tokens → Type 0) where
-    on-level : (d p : ℕ) (go : Unit {0} → Parsed) → p ≤ n → (d < maxLevel → All n Q (go tt)) → All n Q (level d p go)
-    on-level d p go h f =
-        on-pick (All n Q) (leb maxLevel d) _ go (λ _. record { low = omega arith; high = omega arith; within = h }) (λ b. f (leb-false maxLevel d b))
+    on-level : (L : Limits) (d p : ℕ) (go : Unit {0} → Parsed) → p ≤ n → (d < L .most-levels → All n Q (go tt)) → All n Q (level L d p go)
+    on-level L d p go h f =
+        on-pick (All n Q) (leb (L .most-levels) d) _ go (λ _. record { low = omega arith; high = omega arith; within = h }) (λ b. f (leb-false (L .most-levels) d b))
 
     on-room : (L : Limits) (c p : ℕ) (go : Unit {0} → Parsed) → p ≤ n → (c < L .most-nodes → All n Q (go tt)) → All n Q (room L c p go)
     on-room L c p go h f =
@@ -124,10 +123,10 @@ module _ (n : ℕ) where
         (on-token (unaryToken Plus) (operator-coded Add) u _ _ h (f Plus)
         (on-token (unaryToken Minus) (operator-coded Subtract) u _ _ h (f Minus) g))
 
--- ---- some tokens from u up to v are e
+-- ---- some tokens from u up to v are e, no deeper than level l
 
-abbrev pub Read : ℕ → Tokens → ℕ → Expr → Tokens → Type 0
-Read b u d e v = (ts : List Token) × Follows u ts v × Reads b d ts e
+abbrev pub Read : ℕ → ℕ → Tokens → ℕ → Expr → Tokens → Type 0
+Read l b u d e v = (ts : List Token) × Follows u ts v × ReadsTo l b d ts e
 
 pub follows-append : {u v w : Tokens} {xs ys : List Token} → Follows u xs v → Follows v ys w → Follows u (xs ++ ys) w
 follows-append none g = g
@@ -138,22 +137,22 @@ unfolding Marked
 follows-marked n none h = h
 follows-marked n (some f) h = follows-marked n f (h .1)
 
-module _ {d : ℕ} {u : Tokens} where
-  pub read-tighter : {b : ℕ} {e : Expr} {v : Tokens} → b < 8 → Read (b + 1) u d e v → Read b u d e v
+module _ {l d : ℕ} {u : Tokens} where
+  pub read-tighter : {b : ℕ} {e : Expr} {v : Tokens} → b < 8 → Read l (b + 1) u d e v → Read l b u d e v
   read-tighter h r = (r .0, r .1, reads-tighter h (r .2))
 
-  pub read-parentheses : {v w x : Tokens} {e : Expr} → d < maxLevel → Follows u (symbol OpenParenthesis ∷ []) v → Read 0 v (d + 1) e w → Follows w (symbol CloseParenthesis ∷ []) x → Read 8 u d e x
+  pub read-parentheses : {v w x : Tokens} {e : Expr} → d < l → Follows u (symbol OpenParenthesis ∷ []) v → Read l 0 v (d + 1) e w → Follows w (symbol CloseParenthesis ∷ []) x → Read l 8 u d e x
   read-parentheses h f r g = (_, follows-append f (follows-append (r .1) g), reads-parentheses h (r .2))
 
-  pub read-unary : {o : Unary} {v w : Tokens} {e : Expr} → d < maxLevel → Follows u (unaryToken o ∷ []) v → Read 7 v (d + 1) e w → Read 7 u d (unary o e) w
+  pub read-unary : {o : Unary} {v w : Tokens} {e : Expr} → d < l → Follows u (unaryToken o ∷ []) v → Read l 7 v (d + 1) e w → Read l 7 u d (unary o e) w
   read-unary h f r = (_, follows-append f (r .1), reads-unary h (r .2))
 
-  pub read-binary : {b : ℕ} {j : Binary} {v w x : Tokens} {e a : Expr} → bindsOf j ≡ b → Read b u d e v → Follows v (operator j ∷ []) w → Read (b + 1) w d a x → Read b u d (binary j e a) x
+  pub read-binary : {b : ℕ} {j : Binary} {v w x : Tokens} {e a : Expr} → bindsOf j ≡ b → Read l b u d e v → Follows v (operator j ∷ []) w → Read l (b + 1) w d a x → Read l b u d (binary j e a) x
   read-binary {j = j} {v} {w} {x} {e} {a} =
-      λ h. subst (λ (k : ℕ). Read k u d e v → Follows v (operator j ∷ []) w → Read (k + 1) w d a x → Read k u d (binary j e a) x) h
+      λ h. subst (λ (k : ℕ). Read l k u d e v → Follows v (operator j ∷ []) w → Read l (k + 1) w d a x → Read l k u d (binary j e a) x) h
       (λ l f r. (_, follows-append (l .1) (follows-append f (r .1)), reads-binary (l .2) (r .2)))
 
-  pub read-conditional : {v w x y z : Tokens} {e a b : Expr} → d < maxLevel → Read 1 u d e v → Follows v (symbol Question ∷ []) w → Read 0 w (d + 1) a x → Follows x (symbol Colon ∷ []) y → Read 0 y (d + 1) b z → Read 0 u d (conditional e a b) z
+  pub read-conditional : {v w x y z : Tokens} {e a b : Expr} → d < l → Read l 1 u d e v → Follows v (symbol Question ∷ []) w → Read l 0 w (d + 1) a x → Follows x (symbol Colon ∷ []) y → Read l 0 y (d + 1) b z → Read l 0 u d (conditional e a b) z
   read-conditional h r f s g t = (_, follows-append (r .1) (follows-append f (follows-append (s .1) (follows-append g (t .1)))), reads-conditional h (r .2) (s .2) (t .2))
 
 -- ---- the readers
@@ -163,7 +162,7 @@ module _ (n : ℕ) (L : Limits) where
   pub record Got (b : ℕ) (u : Tokens) (d c : ℕ) (e : Expr) (v : Tokens) : Type 0 where
     pub fewer : count v < count u
     pub fits : c + size e ≤ L .most-nodes
-    pub read : Read b u d e v
+    pub read : Read (L .most-levels) b u d e v
 
   marked-behind : {b d c : ℕ} {u v : Tokens} {e : Expr} → Marked n u → Got b u d c e v → Marked n v
   marked-behind h g = follows-marked n (g .read .1) h
@@ -177,12 +176,12 @@ module _ (n : ℕ) (L : Limits) where
         on-after n _ _ (binaryAt L f u 1 d c) _ (binary-sound f u 1 d c hm (omega arith) (omega arith)) λ e v g.
         arms-sound f v d (c + size e) e (marked-behind hm g) (omega arith) u c refl (g .fits) (g .fewer) (g .read)
 
-    pub arms-sound : (f : ℕ) (u : Tokens) (d c : ℕ) (e : Expr) → Marked n u → 16 * count u + 11 < f → (u₀ : Tokens) (c₀ : ℕ) → c ≡ c₀ + size e → c ≤ L .most-nodes → count u < count u₀ → Read 1 u₀ d e u → All n (Got 0 u₀ d c₀) (armsAt L f u d c e)
+    pub arms-sound : (f : ℕ) (u : Tokens) (d c : ℕ) (e : Expr) → Marked n u → 16 * count u + 11 < f → (u₀ : Tokens) (c₀ : ℕ) → c ≡ c₀ + size e → c ≤ L .most-nodes → count u < count u₀ → Read (L .most-levels) 1 u₀ d e u → All n (Got 0 u₀ d c₀) (armsAt L f u d c e)
     arms-sound zero u d c e hm hf u₀ c₀ hc hn hu r = absurd (omega arith)
     arms-sound (suc f) u d c e hm hf u₀ c₀ hc hn hu r =
         let Q = Got 0 u₀ d c₀ in
         on-token n Q (symbol Question) (symbol-coded Question) u _ _ hm
-        (λ p v s. on-level n Q d p _ (s .within) λ hd. on-room n Q L c p _ (s .within) λ hr.
+        (λ p v s. on-level n Q L d p _ (s .within) λ hd. on-room n Q L c p _ (s .within) λ hr.
         on-after n _ Q (conditionalAt L f v (d + 1) (c + 1)) _ (conditional-sound f v (d + 1) (c + 1) (s .marked) (omega arith)) λ a w g.
         on-want n Q (symbol Colon) (symbol-coded Colon) w _ (marked-behind (s .marked) g) λ p′ x s′.
         on-after n _ Q (conditionalAt L f x (d + 1) (c + 1 + size a)) _ (conditional-sound f x (d + 1) (c + 1 + size a) (s′ .marked) (omega arith)) λ b y g′.
@@ -199,7 +198,7 @@ module _ (n : ℕ) (L : Limits) where
         (λ t. let e : 7 ≡ b = omega (arith, ltb-false b 7 t) in
         subst (λ (k : ℕ). All n (Got k u d c) (unaryAt L f u d c)) e (unary-sound f u d c hm (omega arith)))
 
-    pub rest-sound : (f : ℕ) (u : Tokens) (b d c : ℕ) (e : Expr) → Marked n u → b < 7 → 16 * count u + 11 < f → (u₀ : Tokens) (c₀ : ℕ) → c ≡ c₀ + size e → c ≤ L .most-nodes → count u < count u₀ → Read b u₀ d e u → All n (Got b u₀ d c₀) (restAt L f u b d c e)
+    pub rest-sound : (f : ℕ) (u : Tokens) (b d c : ℕ) (e : Expr) → Marked n u → b < 7 → 16 * count u + 11 < f → (u₀ : Tokens) (c₀ : ℕ) → c ≡ c₀ + size e → c ≤ L .most-nodes → count u < count u₀ → Read (L .most-levels) b u₀ d e u → All n (Got b u₀ d c₀) (restAt L f u b d c e)
     rest-sound zero u b d c e hm hb hf u₀ c₀ hc hn hu r = absurd (omega arith)
     rest-sound (suc f) u b d c e hm hb hf u₀ c₀ hc hn hu r =
         let Q = Got b u₀ d c₀ in
@@ -213,8 +212,8 @@ module _ (n : ℕ) (L : Limits) where
     unary-sound zero u d c hm hf = absurd (omega arith)
     unary-sound (suc f) u d c hm hf =
         let Q = Got 7 u d c in
-        on-unary n Q u (λ o p v. level d p (λ _. room L c p (λ _. after (unaryAt L f v (d + 1) (c + 1)) (λ a w. ok (unary o a) w)))) _ hm
-        (λ o p v s. on-level n Q d p _ (s .within) λ hd. on-room n Q L c p _ (s .within) λ hr.
+        on-unary n Q u (λ o p v. level L d p (λ _. room L c p (λ _. after (unaryAt L f v (d + 1) (c + 1)) (λ a w. ok (unary o a) w)))) _ hm
+        (λ o p v s. on-level n Q L d p _ (s .within) λ hd. on-room n Q L c p _ (s .within) λ hr.
         on-after n _ Q (unaryAt L f v (d + 1) (c + 1)) _ (unary-sound f v (d + 1) (c + 1) (s .marked) (omega arith)) λ a w g.
         record { fewer = omega arith; fits = omega arith; read = read-unary hd (s .step) (g .read) })
         (on-all n _ Q (primaryAt L f u d c) (primary-sound f u d c hm (omega arith)) λ a w g. record { fewer = g .fewer; fits = g .fits; read = read-tighter (omega arith) (g .read) })
@@ -234,7 +233,7 @@ module _ (n : ℕ) (L : Limits) where
         (λ q w y s″. record { fewer = omega arith; fits = omega arith; read = (_, follows-append (s .step) (follows-append (s′ .step) (s″ .step)), reads-other) })
         (on-misfit n Q x (s′ .marked)))
         (on-token n Q (symbol OpenParenthesis) (symbol-coded OpenParenthesis) u _ _ hm
-        (λ p v s. on-level n Q d p _ (s .within) λ hd.
+        (λ p v s. on-level n Q L d p _ (s .within) λ hd.
         on-after n _ Q (conditionalAt L f v (d + 1) c) _ (conditional-sound f v (d + 1) c (s .marked) (omega arith)) λ e w g.
         on-want n Q (symbol CloseParenthesis) (symbol-coded CloseParenthesis) w _ (marked-behind (s .marked) g) λ p′ x s′.
         record { fewer = omega arith; fits = g .fits; read = read-parentheses hd (s .step) (g .read) (s′ .step) })

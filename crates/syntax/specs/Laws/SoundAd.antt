@@ -9,37 +9,37 @@ use lib.Dec.{leb}
 use borrow.Author.Tests.{leb-false}
 use Rattle.syntax.specs.Tree.{Expr, Definition, Ad, size, nodes}
 use Rattle.syntax.specs.Token.{Token, word, constant, operator, symbol, Tokens, next, end, bad, pick}
-use Rattle.syntax.specs.Grammar.{Reads, Defines, defines-one, defines-more, IsAd, ad-empty, ad-plain, ad-trailing, NewAfter, Follows, none, some}
+use Rattle.syntax.specs.Grammar.{ReadsTo, DefinesTo, defines-one, defines-more, AdTo, ad-empty, ad-plain, ad-trailing, NewAfter, Follows, none, some}
 use Rattle.syntax.specs.Reader.{Parsed, ok, refused, Answer, accepted, denied, codeOf, isToken, misfit, onToken, onWord, Limits, conditionalAt, afterA, wantA, endA, count, enough, admit, definitionsAt, behindAt, adAt}
 use Rattle.syntax.specs.Laws.Codes.{on-pick, is-token, symbol-coded}
 use Rattle.syntax.specs.Laws.Sound.{Number, Marked, Step, step-of, All, Got, conditional-sound, follows-append, follows-marked}
 use Rattle.syntax.specs.declared.Symbol.the-variants.{OpenBracket, CloseBracket, Semicolon, Assign}
 
--- the tokens behind `[` or `;`, up to the end of an ad
-pub data Closes : List Token → Ad → Type 0 where
-  closes : Closes (symbol CloseBracket ∷ []) []
-  closes-plain : {ts : List Token} {a : Ad} → Defines ts a → Closes (ts ++ symbol CloseBracket ∷ []) a
-  closes-trailing : {ts : List Token} {a : Ad} → Defines ts a → Closes (ts ++ symbol Semicolon ∷ symbol CloseBracket ∷ []) a
+-- the tokens behind `[` or `;`, up to the end of an ad that is no deeper than level l
+pub data Closes (l : ℕ) : List Token → Ad → Type 0 where
+  closes : Closes l (symbol CloseBracket ∷ []) []
+  closes-plain : {ts : List Token} {a : Ad} → DefinesTo l ts a → Closes l (ts ++ symbol CloseBracket ∷ []) a
+  closes-trailing : {ts : List Token} {a : Ad} → DefinesTo l ts a → Closes l (ts ++ symbol Semicolon ∷ symbol CloseBracket ∷ []) a
 
 -- the tokens behind a definition
-pub data Behind : List Token → Ad → Type 0 where
-  behind-last : Behind (symbol CloseBracket ∷ []) []
-  behind-more : {ts : List Token} {a : Ad} → Closes ts a → Behind (symbol Semicolon ∷ ts) a
+pub data Behind (l : ℕ) : List Token → Ad → Type 0 where
+  behind-last : Behind l (symbol CloseBracket ∷ []) []
+  behind-more : {ts : List Token} {a : Ad} → Closes l ts a → Behind l (symbol Semicolon ∷ ts) a
 
-pub closes-ad : {ts : List Token} {a : Ad} → Closes ts a → IsAd (symbol OpenBracket ∷ ts) a
+pub closes-ad : {l : ℕ} {ts : List Token} {a : Ad} → Closes l ts a → AdTo l (symbol OpenBracket ∷ ts) a
 closes-ad closes = ad-empty
 closes-ad (closes-plain d) = ad-plain d
 closes-ad (closes-trailing d) = ad-trailing d
 
 -- a definition, and what is behind it
-pub one-more : {w : List ℕ} {ts us : List Token} {e : Expr} {a : Ad} → Reads 0 0 ts e → Behind us a → Closes (word w ∷ symbol Assign ∷ (ts ++ us)) (record { name = w; expression = e } ∷ a)
+pub one-more : {l : ℕ} {w : List ℕ} {ts us : List Token} {e : Expr} {a : Ad} → ReadsTo l 0 0 ts e → Behind l us a → Closes l (word w ∷ symbol Assign ∷ (ts ++ us)) (record { name = w; expression = e } ∷ a)
 one-more r behind-last = closes-plain (defines-one r)
 one-more r (behind-more closes) = closes-trailing (defines-one r)
-one-more {w} {ts} {e = e} {a = a} r (behind-more (closes-plain {ts = us} d)) =
-    subst (λ (l : List Token). Closes (word w ∷ symbol Assign ∷ l) (record { name = w; expression = e } ∷ a)) (append-assoc ts (symbol Semicolon ∷ us) (symbol CloseBracket ∷ []))
+one-more {l} {w} {ts} {e = e} {a = a} r (behind-more (closes-plain {ts = us} d)) =
+    subst (λ (ys : List Token). Closes l (word w ∷ symbol Assign ∷ ys) (record { name = w; expression = e } ∷ a)) (append-assoc ts (symbol Semicolon ∷ us) (symbol CloseBracket ∷ []))
     (closes-plain (defines-more r d))
-one-more {w} {ts} {e = e} {a = a} r (behind-more (closes-trailing {ts = us} d)) =
-    subst (λ (l : List Token). Closes (word w ∷ symbol Assign ∷ l) (record { name = w; expression = e } ∷ a)) (append-assoc ts (symbol Semicolon ∷ us) (symbol Semicolon ∷ symbol CloseBracket ∷ []))
+one-more {l} {w} {ts} {e = e} {a = a} r (behind-more (closes-trailing {ts = us} d)) =
+    subst (λ (ys : List Token). Closes l (word w ∷ symbol Assign ∷ ys) (record { name = w; expression = e } ∷ a)) (append-assoc ts (symbol Semicolon ∷ us) (symbol Semicolon ∷ symbol CloseBracket ∷ []))
     (closes-trailing (defines-more r d))
 
 abbrev pub AllA : ℕ → (Ad → Type 0) → Answer → Type 0
@@ -110,7 +110,7 @@ module _ (n : ℕ) (L : Limits) where
       record { more = []; those = symbol CloseBracket ∷ []; ends = m; whole = sym (append-nil a); follows = subst (λ (x : Tokens). Follows u (symbol CloseBracket ∷ []) x) e (s .step); sentence = t; few-nodes = omega arith; few-definitions = omega arith; fresh = tt }
 
   -- one definition in front of more
-  more-sound : (u v x y : Tokens) (a : Ad) (c p q : ℕ) (w : List ℕ) (e : Expr) → L .taken w a ≡ false → Step n u p (word w) v → Step n v q (symbol Assign) x → Got n L 0 x 0 c e y → (r : Ad) → GotAd L Behind y (a ++ record { name = w; expression = e } ∷ []) (c + size e) r → GotAd L Closes u a c r
+  more-sound : (u v x y : Tokens) (a : Ad) (c p q : ℕ) (w : List ℕ) (e : Expr) → L .taken w a ≡ false → Step n u p (word w) v → Step n v q (symbol Assign) x → Got n L 0 x 0 c e y → (r : Ad) → GotAd L (Behind (L .most-levels)) y (a ++ record { name = w; expression = e } ∷ []) (c + size e) r → GotAd L (Closes (L .most-levels)) u a c r
   unfolding nodes NewAfter
   more-sound u v x y a c p q w e h s s′ g r k =
       let d : Definition = record { name = w; expression = e } in
@@ -134,29 +134,29 @@ module _ (n : ℕ) (L : Limits) where
   mutual
     unfolding definitionsAt
 
-    definitions-sound : (f : ℕ) (u : Tokens) (a : Ad) (c : ℕ) → Marked n u → count u < f → c ≤ L .most-nodes → length a ≤ L .most-definitions → AllA n (GotAd L Closes u a c) (definitionsAt L f u a c)
+    definitions-sound : (f : ℕ) (u : Tokens) (a : Ad) (c : ℕ) → Marked n u → count u < f → c ≤ L .most-nodes → length a ≤ L .most-definitions → AllA n (GotAd L (Closes (L .most-levels)) u a c) (definitionsAt L f u a c)
     definitions-sound zero u a c hm hf hc ha = absurd (omega arith)
     definitions-sound (suc f) u a c hm hf hc ha =
-        let Q = GotAd L Closes u a c in
-        token-ad n Q (symbol CloseBracket) (symbol-coded CloseBracket) u _ _ hm (λ p v s. last-sound Closes closes u v a c p hc ha s)
+        let Q = GotAd L (Closes (L .most-levels)) u a c in
+        token-ad n Q (symbol CloseBracket) (symbol-coded CloseBracket) u _ _ hm (λ p v s. last-sound (Closes (L .most-levels)) closes u v a c p hc ha s)
         (word-ad n Q u _ _ hm
         (λ p w v s. admit-ad n Q L w p a _ (s .within) λ ht hl.
         want-ad n Q (symbol Assign) (symbol-coded Assign) v _ (s .marked) λ q x s′.
         after-ad n Q (Got n L 0 x 0 c) (conditionalAt L (enough x) x 0 c) _ (conditional-sound n L (enough x) x 0 c (s′ .marked) (omega arith)) λ e y g.
         let d : Definition = record { name = w; expression = e } in
-        all-ad (GotAd L Behind y (a ++ d ∷ []) (c + size e)) Q (behindAt L f y (a ++ d ∷ []) (c + size e))
+        all-ad (GotAd L (Behind (L .most-levels)) y (a ++ d ∷ []) (c + size e)) Q (behindAt L f y (a ++ d ∷ []) (c + size e))
         (behind-sound f y (a ++ d ∷ []) (c + size e) (follows-marked n (g .read .1) (s′ .marked)) (omega arith) (g .fits) (omega (arith, length-append a (d ∷ []))))
         (more-sound u v x y a c p q w e ht s s′ g))
         (misfit-ad n Q u hm))
 
-    behind-sound : (f : ℕ) (u : Tokens) (a : Ad) (c : ℕ) → Marked n u → count u < f → c ≤ L .most-nodes → length a ≤ L .most-definitions → AllA n (GotAd L Behind u a c) (behindAt L f u a c)
+    behind-sound : (f : ℕ) (u : Tokens) (a : Ad) (c : ℕ) → Marked n u → count u < f → c ≤ L .most-nodes → length a ≤ L .most-definitions → AllA n (GotAd L (Behind (L .most-levels)) u a c) (behindAt L f u a c)
     behind-sound zero u a c hm hf hc ha = absurd (omega arith)
     behind-sound (suc f) u a c hm hf hc ha =
-        let Q = GotAd L Behind u a c in
+        let Q = GotAd L (Behind (L .most-levels)) u a c in
         token-ad n Q (symbol Semicolon) (symbol-coded Semicolon) u _ _ hm
-        (λ p v s. all-ad (GotAd L Closes v a c) Q (definitionsAt L f v a c) (definitions-sound f v a c (s .marked) (omega arith) hc ha) λ r k.
+        (λ p v s. all-ad (GotAd L (Closes (L .most-levels)) v a c) Q (definitionsAt L f v a c) (definitions-sound f v a c (s .marked) (omega arith) hc ha) λ r k.
         record { more = k .more; those = symbol Semicolon ∷ k .those; ends = k .ends; whole = k .whole; follows = follows-append (s .step) (k .follows); sentence = behind-more (k .sentence); few-nodes = k .few-nodes; few-definitions = k .few-definitions; fresh = k .fresh })
-        (token-ad n Q (symbol CloseBracket) (symbol-coded CloseBracket) u _ _ hm (λ p v s. last-sound Behind behind-last u v a c p hc ha s)
+        (token-ad n Q (symbol CloseBracket) (symbol-coded CloseBracket) u _ _ hm (λ p v s. last-sound (Behind (L .most-levels)) behind-last u v a c p hc ha s)
         (misfit-ad n Q u hm))
 
   -- an accepted ad
@@ -164,7 +164,7 @@ module _ (n : ℕ) (L : Limits) where
     pub those : List Token
     pub ends : ℕ
     pub follows : Follows u those (end ends)
-    pub sentence : IsAd those a
+    pub sentence : AdTo (L .most-levels) those a
     pub few-nodes : nodes a ≤ L .most-nodes
     pub few-definitions : length a ≤ L .most-definitions
     pub fresh : NewAfter (L .taken) [] a
@@ -174,5 +174,5 @@ module _ (n : ℕ) (L : Limits) where
   unfolding adAt
   ad-sound u hm =
       want-ad n (Accepted u) (symbol OpenBracket) (symbol-coded OpenBracket) u _ hm λ p v s.
-      all-ad (GotAd L Closes v [] 0) (Accepted u) (definitionsAt L (enough v) v [] 0) (definitions-sound (enough v) v [] 0 (s .marked) (omega arith) (omega arith) (omega arith)) λ r k.
+      all-ad (GotAd L (Closes (L .most-levels)) v [] 0) (Accepted u) (definitionsAt L (enough v) v [] 0) (definitions-sound (enough v) v [] 0 (s .marked) (omega arith) (omega arith) (omega arith)) λ r k.
       record { those = symbol OpenBracket ∷ k .those; ends = k .ends; follows = follows-append (s .step) (k .follows); sentence = rw (k .whole) (closes-ad (k .sentence)); few-nodes = rw (k .whole) (omega (arith, k .few-nodes)); few-definitions = rw (k .whole) (omega (arith, k .few-definitions)); fresh = rw (k .whole) (k .fresh) }
