@@ -1,8 +1,8 @@
--- What the traversal asks and comes to, and what is found of a reference when it is over. Assumes nothing.
+-- What the traversal asks and comes to. Assumes nothing.
 use mathlib.Core.Path.{_≡_}
-use mathlib.Core.Bool.{Bool, true, false, cond}
+use mathlib.Core.Bool.{Bool, true, false}
 use mathlib.Core.List.{List, [], _∷_, _++_, map}
-use Prim.Native.Nat.{ℕ, zero, suc, _+_, _-_, _*_, _≤_, _<_}
+use Prim.Native.Nat.{ℕ, suc, _+_, _-_, _*_, _≤_, _<_}
 use lib.ListN.{length, getD, replicate}
 use lib.Dec.{leb}
 use Rattle.graph.specs.Members.{raised}
@@ -13,8 +13,6 @@ use Rattle.graph.specs.declared.Place.the-variants.{Resolving, Starting, Search
 use Rattle.ad.specs.Stored.{nodeCount}
 use Rattle.links.specs.Pair.{Formed, Stands}
 use Rattle.marks.specs.Memory.{view, marksRoom, Clear, Flagged}
-use Rattle.dependency.specs.declared.Lookup.{Lookup}
-use Rattle.dependency.specs.declared.Lookup.the-variants.{Found, Absent, Circular}
 
 -- 'clear marks and an empty list', for two well-formed ads; the other marks are the traversal's own
 pub record Ready (v w target flag list : List ℕ) : Type 0 where
@@ -77,14 +75,3 @@ endedAt (Searching k x top high low) n = false
 endedAt (Closing k x top high) n = false
 endedAt (Between k) n = leb n k
 endedAt (Inside k x) n = false
-
--- ---- what is found of a reference when the traversal is over, from its marks alone
-
--- what a recorded target says: 'none found', or the definition found
-abbrev pub foundAt : ℕ → Lookup
-foundAt zero = Absent
-foundAt (suc y) = Found y
-
--- 'A reference that leads .. back to itself is circular', whatever was found
-unfoldable pub lookupOf : (target flag : List ℕ) → ℕ → Lookup
-lookupOf target flag x = cond (raised flag x) Circular (foundAt (getD target x 0))

@@ -13,29 +13,7 @@ ghost use lib.Dec.{ltb};
 ghost use Rattle.graph.specs.declared.Place.the-variants.{Resolving, Between};
 ghost use Rattle.links.specs.Pair.{pairGraph, Measured, RootMarks, Fingerprints};
 ghost use Rattle.marks.specs.Memory.{markWords};
-ghost use Rattle.dependency.specs.Traversal.{lookupOf, endedAt, Ready, Traversed};
-
-// What is found of a reference: its definition's root, by number; no definition; or a cycle back to the reference itself.
-pub enum Lookup {
-    Found(usize),
-    Absent,
-    Circular,
-}
-
-// What the traversal found of the reference x. No name is looked up.
-pub fn resolved(target: &[usize], flag: &[usize], x: usize) -> Lookup
-    requires { ⌜ (x < length (now target)) × (x < length (now flag)) ⌝ }
-    ensures { λ r. ⌜ r ≡ lookupOf (now (target .entry)) (now (flag .entry)) x ⌝ }
-{
-    if flag[x] == 1 {
-        return Lookup::Circular;
-    }
-    let t = target[x];
-    if t == 0 {
-        return Lookup::Absent;
-    }
-    Lookup::Found(t - 1)
-}
+ghost use Rattle.dependency.specs.Traversal.{endedAt, Ready, Traversed};
 
 // How many transitions the traversal took, how long the list is, and where it began.
 pub struct Traversal {

@@ -1,5 +1,5 @@
--- The traversal as it is used: two stored ads and cleared memory are what it asks, and when it is over, what is found of a reference is
--- its definition, and what its marks lead to are its needs. Assumes nothing.
+-- The traversal as it is used: two stored ads and cleared memory are what it asks, and when it is over, what a node's marks lead to are
+-- its needs. Assumes nothing.
 use mathlib.Core.Path.{_≡_, refl, sym, ap, _∙_, subst}
 use mathlib.Core.Bool.{Bool, true, false, cond}
 use mathlib.Core.List.{List, [], _∷_}
@@ -7,14 +7,12 @@ use Prim.Native.Nat.{ℕ, zero, suc, _≤_}
 use native.Mathlib.Omega.{arith}
 use lib.ListN.{length, getD, replicate, length-replicate}
 use Rattle.graph.specs.Members.{numbers, raised}
-use Rattle.graph.specs.Graph.{Graph, Sound, Circular, needs}
-use Rattle.graph.specs.Transition.{marked, recordedAs, led}
+use Rattle.graph.specs.Graph.{Graph, Sound, needs}
+use Rattle.graph.specs.Transition.{recordedAs, led}
 use Rattle.graph.specs.Laws.Traversal.{marks-back}
 use Rattle.links.specs.Pair.{Formed}
 use Rattle.marks.specs.Memory.{marksRoom, Clear}
-use Rattle.dependency.specs.Traversal.{Ready, Traversed, lookupOf, foundAt}
-use Rattle.dependency.specs.declared.Lookup as lookup
-use Rattle.dependency.specs.declared.Lookup.the-variants as variant
+use Rattle.dependency.specs.Traversal.{Ready, Traversed}
 
 pub clear-zeros : (n : ℕ) → Clear (replicate n 0)
 clear-zeros zero i = refl
@@ -40,27 +38,6 @@ ready-zeros n h f g t e l = record {
 
     clear : {u : List ℕ} → u ≡ replicate n 0 → Clear u
     clear q = subst Clear (sym q) (clear-zeros n)
-
-module _ {G : Graph} {count len : ℕ} {ta fl ls : List ℕ} (t : Traversed G count len ta fl ls) (x : ℕ) (r : G .ref x ≡ true) where
-  plain : ¬ (Circular G x) → raised fl x ≡ false
-  plain n = go (raised fl x) refl
-    where
-      go : (b : Bool) → raised fl x ≡ b → b ≡ false
-      go true e = absurd (n (t .circular x .0 e))
-      go false e = refl
-
-  -- a circular reference, one with no definition, and one that leads to its definition's root
-  pub lookup-circular : Circular G x → lookupOf ta fl x ≡ variant.Circular
-  unfolding lookupOf
-  lookup-circular c = rw (t .circular x .1 c) refl
-
-  pub lookup-absent : ¬ (Circular G x) → G .links x ≡ [] → lookupOf ta fl x ≡ variant.Absent
-  unfolding lookupOf
-  lookup-absent n e = rw (plain n) (ap foundAt (t .resolved x r ∙ ap marked e))
-
-  pub lookup-found : {y : ℕ} → ¬ (Circular G x) → G .links x ≡ y ∷ [] → lookupOf ta fl x ≡ variant.Found y
-  unfolding lookupOf
-  lookup-found {y} n e = rw (plain n) (ap foundAt (t .resolved x r ∙ ap marked e))
 
 -- what a node needs, by its marks
 pub needs-led : {G : Graph} → Sound G → {count len : ℕ} {ta fl ls : List ℕ} → Traversed G count len ta fl ls → (x : ℕ) →
