@@ -205,6 +205,7 @@ pub fn print(words: &[u64], bytes: &[u8], out: &mut [u8]) -> Printed
 // The same, handed back as the front part of the output; nothing of it where it is refused.
 pub fn text<'a>(words: &[u64], bytes: &[u8], out: &'a mut [u8]) -> &'a mut [u8]
     ensures { λ r. ⌜ HandsBack (now (words .entry)) (now (bytes .entry)) (now (out .entry)) (now r) ⌝ }
+    ensures front { λ r. ⌜ r .ptr ≡ out .entry .ptr ⌝ }
 {
     match print(words, bytes, &mut *out) {
         Printed::Text(n) => &mut out[..n],
