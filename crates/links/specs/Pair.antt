@@ -18,8 +18,7 @@ use Rattle.graph.specs.Graph.{Graph}
 use Rattle.graph.specs.Transition.{marked}
 use Rattle.ad.specs.Stored.{kindAt, nodeCount, definitionCount, offsetAt, lengthAt, bytesAt, isOwn, isOther, isReference, operands, nameAt, rootAt, find}
 
--- A link as it is said from its own side: whether it goes to the other ad, and to which node there: for '`name` finds its
--- definition in its own ad, `other.name` in the other'.
+-- A link as it is said from its own side: whether it goes to the other ad, and to which node there.
 abbrev pub Link : Type 0
 Link = Bool × ℕ
 
@@ -27,15 +26,15 @@ Link = Bool × ℕ
 abbrev pub numbered : Bool → ℕ → ℕ
 numbered second y = cond second (maxNodes + y) y
 
--- the number of the node to which a link goes, said from the first side, or from the second: for 'The two sides are distinct'
+-- the number of the node to which a link goes, said from the first side, or from the second
 abbrev pub linked : Bool → Link → ℕ
 linked second l = numbered (cond (l .0) (not second) second) (l .1)
 
--- a link in its own ad, to node y: '`name` finds its definition in its own ad'; 'An operator leads to all its operands'
+-- a link in its own ad, to node y
 abbrev pub inside : ℕ → Link
 inside y = (false, y)
 
--- a link to the other ad, to node y there: '`other.name` in the other'
+-- a link to the other ad, to node y there
 abbrev pub across : ℕ → Link
 across y = (true, y)
 
@@ -49,16 +48,15 @@ linksFrom w b w′ b′ i =
     (cond (isOther (kindAt w i)) (map across (find w′ b′ (nameAt w b i))) (map inside (operands w i))))
     []
 
--- whether node i of an ad is a reference: 'A node is a literal, a reference or an operator.'
+-- whether node i of an ad is a reference
 unfoldable pub refersAt : List ℕ → ℕ → Bool
 refersAt w i = ltb i (nodeCount w) && isReference (kindAt w i)
 
--- of a pair: what the first ad says of its node, or the second of its: 'The two sides are distinct even if the same ad is lent
--- twice.'
+-- of a pair: what the first ad says of its node, or the second of its
 unfoldable pub both : {A : Type 0} → (ℕ → A) → (ℕ → A) → ℕ → A
 both p q x = cond (ltb x maxNodes) (p x) (q (x - maxNodes))
 
--- the roots that a name has in an ad, numbered: one or none, for 'those that exist'
+-- the roots that a name has in an ad, numbered: one or none
 abbrev pub rootsOf : Bool → List ℕ → List ℕ → List ℕ → List ℕ
 rootsOf second w b name = map (numbered second) (find w b name)
 
@@ -97,13 +95,13 @@ pub record Formed (w : List ℕ) : Type 0 where
   pub roots-in : (j : ℕ) → j < definitionCount w → rootAt w j < nodeCount w
   pub definitions-few : definitionCount w ≤ nodeCount w
 
--- a well-formed ad, and its counts: for 'a stored ad is well formed exactly if ..' and 'the nodes of both ads'
+-- a well-formed ad, and its counts
 pub record Measured (w : List ℕ) (n d : ℕ) : Type 0 where
   pub formed : Formed w
   pub nodes-are : n ≡ nodeCount w
   pub definitions-are : d ≡ definitionCount w
 
--- x is a node of the pair: 'a side and a node'
+-- x is a node of the pair
 abbrev pub Stands : (v w : List ℕ) → ℕ → Type 0
 Stands v w x = both (λ i. ltb i (nodeCount v)) (λ i. ltb i (nodeCount w)) x ≡ true
 
