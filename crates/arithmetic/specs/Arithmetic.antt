@@ -22,7 +22,8 @@ integersResult Product x y = Integer (wrappedProduct width x y)
 integersResult Quotient x y = cond (eqb y 0) Error (Integer (truncatedQuotient width x y))
 integersResult Remainder x y = cond (eqb y 0) Error (Integer (signedRemainder width x y))
 
--- 'Real operations round once each.' 'Division by 0.0 gives infinity or not-a-number, never Error.'
+-- 'Real operations round once each', which Exact.antt says over whole numbers (`RoundsOnce`). 'Division by 0.0 gives infinity or
+-- not-a-number, never Error.'
 abbrev pub realsResult : Arithmetic → Float → Float → Float
 realsResult Sum x y = Ieee.add binary64 x y
 realsResult Difference x y = Ieee.sub binary64 x y

@@ -12,5 +12,5 @@ unfolding memory examples valueOf wrap signed bytes lowerCase stringOrder bytesO
 examples-hold = refl
 
 pub edges-hold : Holds edges
-unfolding memory edges valueOf wrap signed bytes lowerCase stringOrder bytesOrder sameBytes Ieee.round Ieee.add Ieee.div Ieee.rem Ieee.neg Ieee.eq Ieee.ne Ieee.ofInt
+unfolding memory edges valueOf wrap signed bytes lowerCase stringOrder bytesOrder sameBytes Ieee.round Ieee.add Ieee.div Ieee.rem Ieee.neg Ieee.eq Ieee.ne Ieee.lt Ieee.le Ieee.ofInt
 edges-hold = refl

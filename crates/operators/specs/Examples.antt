@@ -5,7 +5,7 @@ use mathlib.Core.Bool.{true, false}
 use mathlib.Core.List.{List, [], _∷_, map}
 use Prim.Native.Nat.{ℕ}
 use lib.IntN.{ℤ, pos, negsuc}
-use lib.Ieee.{inf, nan}
+use lib.Ieee.{inf, nan, fin}
 use Rattle.text.specs.Bytes.{bytes}
 use Rattle.integers.specs.Integers.{width, wrap}
 use Rattle.syntax.specs.declared.Binary.the-variants.{Or, And, Equal, NotEqual, Is, Isnt, Less, LessOrEqual, Greater, GreaterOrEqual, Add, Subtract, Multiply, Divide, Remainder}
@@ -111,6 +111,17 @@ edges =
     -- 1.0 / 0.0, 0.0 / 0.0
     ∷ record { text = binary (real 10 1) Divide (real 0 1); gives = Real (inf false) }
     ∷ record { text = not-a-number; gives = Real nan }
+    -- 1 / 0.0, 1.0 / 0, 1.0 / -0.0, 7.5 % 0
+    ∷ record { text = binary (whole 1) Divide (real 0 1); gives = Real (inf false) }
+    ∷ record { text = binary (real 10 1) Divide (whole 0); gives = Real (inf false) }
+    ∷ record { text = binary (real 10 1) Divide (minus (real 0 1)); gives = Real (inf true) }
+    ∷ record { text = binary (real 75 1) Remainder (whole 0); gives = Real nan }
+    -- -4.0 % 2.0 is -0.0
+    ∷ record { text = binary (minus (real 40 1)) Remainder (real 20 1); gives = Real (fin true 0 (pos 0)) }
+    -- not-a-number < 1.0, 1.0 < not-a-number, not-a-number >= 1.0
+    ∷ record { text = binary not-a-number Less (real 10 1); gives = Boolean false }
+    ∷ record { text = binary (real 10 1) Less not-a-number; gives = Boolean false }
+    ∷ record { text = binary not-a-number GreaterOrEqual (real 10 1); gives = Boolean false }
     -- not-a-number is never itself, and not equal to itself; 0.0 is -0.0
     ∷ record { text = binary not-a-number Is not-a-number; gives = Boolean false }
     ∷ record { text = binary not-a-number NotEqual not-a-number; gives = Boolean true }

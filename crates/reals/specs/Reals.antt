@@ -6,7 +6,8 @@ use lib.IntN.{pos}
 use lib.Ieee.{Float, binary64, round, ofInt}
 use Rattle.integers.specs.Integers.{signed}
 
--- 'A real literal is the whole number of its digits divided by the power of ten of its places, one rounding.'
+-- 'A real literal is the whole number of its digits divided by the power of ten of its places, one rounding.' What one rounding
+-- gives is said over whole numbers in Laws/Nearest.antt, `literal-nearest`.
 abbrev pub literalReal : ℕ → ℕ → Float
 literalReal digits places = round binary64 false digits (10 ^ places)
 

@@ -8,6 +8,7 @@ use lib.ListN.{length, getD}
 use lib.Dec.{ltb}
 use lib.Ieee.{Float}
 use borrow.Author.Tests.{lt-ltb}
+use Rattle.syntax.specs.Bounds.{maxInteger}
 use Rattle.syntax.specs.Tree.{Literal, undefined, error, boolean, integer, real, string, Scope, own, other}
 use Rattle.syntax.specs.declared.Binary.{Binary}
 use Rattle.syntax.specs.declared.Binary.the-variants.{Or, And, Equal, NotEqual, Is, Isnt, Less, LessOrEqual, Greater, GreaterOrEqual, Add, Subtract, Multiply, Divide, Remainder}
@@ -26,7 +27,7 @@ unfoldable pub LiteralFits : ℕ → Literal → Type 0
 LiteralFits o undefined = Unit {0}
 LiteralFits o error = Unit {0}
 LiteralFits o (boolean b) = Unit {0}
-LiteralFits o (integer n) = n ≤ 2147483647
+LiteralFits o (integer n) = n ≤ maxInteger
 LiteralFits o (real n places) = (n < 10 ^ 15) × (places < 15)
 LiteralFits o (string l) = (o < 65536) × (length l < 65536)
 

@@ -1,0 +1,4 @@
+pub mod Nearest
+pub mod Exact
+pub mod Laws
+pub mod Examples
