@@ -1,4 +1,3 @@
 pub mod Pair
 pub mod Filling
 pub mod Laws
-pub mod Examples

@@ -14,6 +14,8 @@ use Rattle.links.specs.Pair.{rootsOf, pairGraph}
 use Rattle.integers.specs.Integers.{width, wrap}
 use Rattle.values.specs.declared.Value.{Value}
 use Rattle.values.specs.declared.Value.the-variants.{Undefined, Error, Boolean, Integer}
+use Rattle.slots.specs.declared.Slot.the-variants.{Held}
+use Rattle.slots.specs.Packed.{slotAt}
 use Rattle.evaluation.specs.Evaluation.{ruleAt}
 use Rattle.matching.specs.Matching.{Worth, Match}
 use Rattle.matching.specs.declared.Outcome.{Outcome}
@@ -40,9 +42,16 @@ unfoldable pub Given : (need : ℕ → List ℕ) → (v b w c : List ℕ) → Li
 Given need v b w c [] = Unit {0}
 Given need v b w c (g ∷ gs) = Worth need (ruleAt v b w c) (rootsOf false v b (g .name)) (g .value) × Given need v b w c gs
 
--- what a match m of the two ads comes to: values and list, and 'finished .., otherwise the steps done'
+-- each definition's slot holds its value
+unfoldable pub InSlots : (v b table : List ℕ) → List Gift → Type 0
+InSlots v b table [] = Unit {0}
+InSlots v b table (g ∷ gs) = ((x : ℕ) × (rootsOf false v b (g .name) ≡ x ∷ []) × (slotAt table x ≡ Held (g .value))) × InSlots v b table gs
+
+-- what a match m of the two ads comes to: values, in the slots too where the list is covered, and list; 'finished .., otherwise the steps
+-- done'
 pub record Comes (r : Row) (v b w c : List ℕ) {budget : ℕ} {table list : List ℕ} {o : Outcome} (m : Match v b w c budget table list o) : Type 0 where
   pub given : Given (needs (pairGraph v b w c) (m .circular)) v b w c (r .gives)
+  pub shown : length (r .order) ≤ budget → InSlots v b table (r .gives)
   pub lists : m .order ≡ r .order
   pub finishes : length (r .order) ≤ budget → o ≡ Finished (r .matched) (r .first-rank) (r .second-rank) (length (r .order)) (m .count)
   pub stops : budget < length (r .order) → o ≡ Unfinished budget (m .count)
@@ -67,28 +76,37 @@ AllHold (r ∷ rs) = Holds r × AllHold rs
 abbrev pub integer : ℤ → Value
 integer z = Integer (wrap width z)
 
--- a definition `x = ..` of the first ad and its value, beside an empty ad: 'Text | Gives'
-abbrev pub alone : List ℕ → Value → Row
-alone text value = record { first = text; second = bytes "[]"; gives = record { name = bytes "x"; value = value } ∷ []; order = []; matched = false; first-rank = 0; second-rank = 0 }
+-- a definition `x = ..` of the first ad and its value, which the second ad asks for by its Rank: 'Text | Gives'
+abbrev pub alone : List ℕ → Value → List ℕ → ℕ → Row
+alone text value order rank = record {
+  first = text;
+  second = bytes "[Rank = other.x]";
+  gives = record { name = bytes "x"; value = value } ∷ [];
+  order = order;
+  matched = false;
+  first-rank = 0;
+  second-rank = rank;
+}
 
 -- THE TABLE, W1 to W12: 'Examples, those marked W to be proved'
 unfoldable pub table : List Row
 table =
-    alone (bytes "[x = undefined || true]") (Boolean true)
-    ∷ alone (bytes "[x = \"x\" || true]") Error
-    ∷ alone (bytes "[x = undefined && \"x\"]") Error
-    ∷ alone (bytes "[x = undefined + \"x\"]") Error
-    ∷ alone (bytes "[x = undefined + 1]") Undefined
-    ∷ alone (bytes "[x = 2147483647 + 1]") (integer (negsuc 2147483647))
-    ∷ alone (bytes "[x = -7 % 3]") (integer (negsuc 0))
-    ∷ alone (bytes "[x = 1 / 0]") Error
-    ∷ alone (bytes "[x = 3 is 3.0]") (Boolean false)
-    ∷ alone (bytes "[x = \"One\" == \"one\"]") (Boolean true)
+    alone (bytes "[x = undefined || true]") (Boolean true) (0 ∷ 1 ∷ 2 ∷ 1024 ∷ []) 0
+    ∷ alone (bytes "[x = \"x\" || true]") Error (0 ∷ 1 ∷ 2 ∷ 1024 ∷ []) 0
+    ∷ alone (bytes "[x = undefined && \"x\"]") Error (0 ∷ 1 ∷ 2 ∷ 1024 ∷ []) 0
+    ∷ alone (bytes "[x = undefined + \"x\"]") Error (0 ∷ 1 ∷ 2 ∷ 1024 ∷ []) 0
+    ∷ alone (bytes "[x = undefined + 1]") Undefined (0 ∷ 1 ∷ 2 ∷ 1024 ∷ []) 0
+    ∷ alone (bytes "[x = 2147483647 + 1]") (integer (negsuc 2147483647)) (0 ∷ 1 ∷ 2 ∷ 1024 ∷ []) 0
+    ∷ alone (bytes "[x = -7 % 3]") (integer (negsuc 0)) (0 ∷ 1 ∷ 2 ∷ 3 ∷ 1024 ∷ []) 0
+    ∷ alone (bytes "[x = 1 / 0]") Error (0 ∷ 1 ∷ 2 ∷ 1024 ∷ []) 0
+    ∷ alone (bytes "[x = 3 is 3.0]") (Boolean false) (0 ∷ 1 ∷ 2 ∷ 1024 ∷ []) 0
+    ∷ alone (bytes "[x = \"One\" == \"one\"]") (Boolean true) (0 ∷ 1 ∷ 2 ∷ 1024 ∷ []) 0
+    -- the second ad asks for a, which is circular, and for d
     ∷ record {
       first = bytes "[a = b; b = a is undefined; d = b]";
-      second = bytes "[]";
+      second = bytes "[Requirements = other.a; Rank = other.d]";
       gives = record { name = bytes "a"; value = Undefined } ∷ record { name = bytes "b"; value = Boolean true } ∷ record { name = bytes "d"; value = Boolean true } ∷ [];
-      order = [];
+      order = 0 ∷ 1024 ∷ 1 ∷ 2 ∷ 3 ∷ 4 ∷ 1025 ∷ [];
       matched = false;
       first-rank = 0;
       second-rank = 0;

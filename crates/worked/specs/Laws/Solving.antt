@@ -69,7 +69,7 @@ module _ (need : ℕ → List ℕ) (rule : ℕ → List Value → Value) where
   attempted f xs vs e = subst (Good xs) e (attempt-good f xs)
 
 -- what has a value leads to itself by no path
-path-more : {go : ℕ → List ℕ} {x y z : ℕ} → Path⁺ go x y → z ∈ go y → Path⁺ go x z
+pub path-more : {go : ℕ → List ℕ} {x y z : ℕ} → Path⁺ go x y → z ∈ go y → Path⁺ go x z
 path-more (one m) k = more m (one k)
 path-more (more m p) k = more m (path-more p k)
 
@@ -99,7 +99,7 @@ among x (y ∷ ys) = cond (eqb x y) true (among x ys)
 never : true ≡ false → ⊥
 never q = let z : _≡_ {A = ℕ} 0 1 = cc in omega arith
 
-among-in : (x : ℕ) (l : List ℕ) → among x l ≡ true → x ∈ l
+pub among-in : (x : ℕ) (l : List ℕ) → among x l ≡ true → x ∈ l
 unfolding among
 among-in x [] e = absurd (never (sym e))
 among-in x (y ∷ ys) e = go (λ k. among-in x ys k) (ℕ-discrete x y)
@@ -108,7 +108,7 @@ among-in x (y ∷ ys) e = go (λ k. among-in x ys k) (ℕ-discrete x y)
     go h (yes q) = here q
     go h (no n) = there (h (rw (eqb-no n) at e))
 
-among-out : (x : ℕ) (l : List ℕ) → among x l ≡ false → ¬ (x ∈ l)
+pub among-out : (x : ℕ) (l : List ℕ) → among x l ≡ false → ¬ (x ∈ l)
 unfolding among
 among-out x [] e m = mem-nil m
 among-out x (y ∷ ys) e m = go (λ k. among-out x ys k) (ℕ-discrete x y)

@@ -7,6 +7,7 @@ use mathlib.Core.Logic.{_↔_, _⊎_, inl, inr}
 use mathlib.Core.Bool.{Bool, true, false, cond, _&&_}
 use mathlib.Core.List.{List, [], _∷_, _++_, map}
 use lib.ListN.{length}
+use lib.Seq.{take-all}
 use lib.Dec.{ltb}
 use Rattle.syntax.specs.Bounds.{maxNodes}
 use Rattle.syntax.specs.Tree.{Ad, nodes}
@@ -28,8 +29,11 @@ use Rattle.matching.specs.Matching.{isTrue, rankOf, Worth, absent, present, Mat
 use Rattle.matching.specs.Laws.Concluding.{flags-same, worth-unique}
 use Rattle.matching.specs.declared.Outcome.{Outcome}
 use Rattle.matching.specs.declared.Outcome.the-variants.{Finished, Unfinished}
-use Rattle.worked.specs.Table.{Gift, Row, Given, Comes}
-use Rattle.worked.specs.Laws.Solving.{Tried, given, attempt, attempted, given-straight, list, enters, entered-by}
+use Rattle.slots.specs.declared.Slot.the-variants.{Held}
+use Rattle.slots.specs.Packed.{slotAt}
+use Rattle.worked.specs.Table.{Gift, Row, Given, InSlots, Comes}
+use Rattle.worked.specs.Laws.Solving.{Tried, given, attempt, attempted, list, among, among-in, enters, entered-by}
+use Rattle.worked.specs.Laws.Circles.{never, cond-both, either, returns, enough, returns-path, path-returns}
 
 -- ---- links and roots by the trees: nothing is counted or looked up in words
 
@@ -114,16 +118,43 @@ module _ {a a′ : Ad} (s : StoredAd (storedWords a) (storedBytes a) a) (s′ : 
       go (inl h) = mem-left _ (in-upTo 0 (nodes a) x (omega arith) (let e = counted s in omega arith))
       go (inr (h, k)) = mem-right (upTo 0 (nodes a)) (in-upTo maxNodes (nodes a′) x h (let e = counted s′ in omega arith))
 
-  -- no reference is circular where every node has a value by its links
-  pub straight : (f : ℕ) {vs : List Value} → attempt (treeLinks a a′) rule f (treeNodes a a′) ≡ given vs → Flags G (λ x. false)
-  straight f {vs} e x = ((λ q. absurd (never q)), λ c. absurd (given-straight (attempted (treeLinks a a′) rule f (treeNodes a a′) vs e) x (node-in x (sound .refs-in x (c .0))) (subst (λ (l : ℕ → List ℕ). Path⁺ l x x) links-are (c .1))))
+  -- the references that lead back to themselves
+  abbrev pub circles : ℕ → Bool
+  circles x = treeRefers a a′ x && returns (treeLinks a a′) x
+
+  -- so far as was tried, of all nodes
+  unfoldable pub allTried : List ℕ → Bool
+  allTried [] = true
+  allTried (x ∷ xs) = cond (enough (treeLinks a a′) x) (allTried xs) false
+
+  tried : (xs : List ℕ) → allTried xs ≡ true → (x : ℕ) → x ∈ xs → enough (treeLinks a a′) x ≡ true
+  unfolding allTried
+  tried [] e x m = absurd (mem-nil m)
+  tried (y ∷ xs) e x m =
+      let d = cond-both (enough (treeLinks a a′) y) (allTried xs) e in
+      either (λ q. subst (λ (u : ℕ). enough (treeLinks a a′) u ≡ true) (sym q) (d .0)) (λ k. tried xs (d .1) x k) (mem-cons m)
+
+  and-both : (p q : Bool) → (p && q) ≡ true → (p ≡ true) × (q ≡ true)
+  and-both true q e = (refl, e)
+  and-both false q e = absurd (never e)
+
+  -- the circular references are those found
+  pub circles-are : allTried (treeNodes a a′) ≡ true → Flags G circles
+  circles-are e x = (there-is, back-is)
     where
-      never : false ≡ true → ⊥
-      never q = let z : _≡_ {A = ℕ} 0 1 = cc in omega arith
+      there-is : circles x ≡ true → Circular G x
+      there-is q =
+          let d = and-both (treeRefers a a′ x) (returns (treeLinks a a′) x) q in
+          (ap (λ (f : ℕ → Bool). f x) refers-are ∙ d .0, subst (λ (l : ℕ → List ℕ). Path⁺ l x x) (sym links-are) (returns-path (treeLinks a a′) x (d .1)))
+
+      back-is : Circular G x → circles x ≡ true
+      back-is c =
+          let r : treeRefers a a′ x ≡ true = sym (ap (λ (f : ℕ → Bool). f x) refers-are) ∙ c .0 in
+          rw r (path-returns (treeLinks a a′) x (tried (treeNodes a a′) e x (node-in x (sound .refs-in x (c .0)))) (subst (λ (l : ℕ → List ℕ). Path⁺ l x x) links-are (c .1)))
 
   -- ---- what a match of them comes to
 
-  abbrev need : (ℕ → Bool) → ℕ → List ℕ
+  abbrev pub need : (ℕ → Bool) → ℕ → List ℕ
   need c x = cond (c x) [] (treeLinks a a′ x)
 
   needs-are : (c : ℕ → Bool) → needs G c ≡ need c
@@ -152,6 +183,11 @@ module _ {a a′ : Ad} (s : StoredAd (storedWords a) (storedBytes a) a) (s′ : 
     tries-given [] t = tt
     tries-given (g ∷ gs) t = (worth-tried s false (g .name) (t .0), tries-given gs (t .1))
 
+    -- each definition's root is in the list
+    unfoldable pub Lists : List ℕ → List Gift → Type 0
+    Lists l [] = Unit {0}
+    Lists l (g ∷ gs) = ((x : ℕ) × (treeRoot false (g .name) a ≡ x ∷ []) × (among x l ≡ true)) × Lists l gs
+
     -- what is tried of a row
     pub record Checks (r : Row) : Type 0 where
       pub first-requirement : List Value
@@ -160,6 +196,7 @@ module _ {a a′ : Ad} (s : StoredAd (storedWords a) (storedBytes a) a) (s′ : 
       pub second-rank : List Value
       pub order-is : enters (need c) f [] (treeRoots a a′) ≡ list (r .order)
       pub gives : Tries (r .gives)
+      pub listed : Lists (r .order) (r .gives)
       pub first-required : attempt (need c) rule f (treeRoot false requirements a) ≡ given first-requirement
       pub second-required : attempt (need c) rule f (treeRoot true requirements a′) ≡ given second-requirement
       pub first-ranked : attempt (need c) rule f (treeRoot false rank a) ≡ given first-rank
@@ -185,9 +222,28 @@ module _ {a a′ : Ad} (s : StoredAd (storedWords a) (storedBytes a) a) (s′ : 
       value-is {b} t second name {us} e w =
           worth-unique w (subst (λ (d : ℕ → Bool). Worth (needs G d) rule (rootsOf second (storedWords b) (storedBytes b) name) (valueIn us 0)) same (worth-tried t second name e))
 
+      slot-at : length (r .order) ≤ budget → (x : ℕ) → x ∈ r .order → (u : Value) × Gives (needs G (m .circular)) rule x u × (slotAt table x ≡ Held u)
+      slot-at h x n = m .ran .holds x (subst (λ (l : List ℕ). x ∈ l) (sym orders ∙ sym (take-all budget (m .order) (let e = ap length orders in omega arith))) n)
+
+      slot-of : length (r .order) ≤ budget → (g : Gift) → attempt (need c) rule f (treeRoot false (g .name) a) ≡ given (g .value ∷ []) →
+          (x : ℕ) × (treeRoot false (g .name) a ≡ x ∷ []) × (among x (r .order) ≡ true) →
+          (x : ℕ) × (rootsOf false (storedWords a) (storedBytes a) (g .name) ≡ x ∷ []) × (slotAt table x ≡ Held (g .value))
+      unfolding valueIn
+      slot-of h g t (x, q, n) =
+          let root : rootsOf false (storedWords a) (storedBytes a) (g .name) ≡ x ∷ [] = root-is s false (g .name) ∙ q in
+          let d = slot-at h x (among-in x (r .order) n) in
+          let w : Worth (needs G (m .circular)) rule (rootsOf false (storedWords a) (storedBytes a) (g .name)) (d .0) = subst (λ (l : List ℕ). Worth (needs G (m .circular)) rule l (d .0)) (sym root) (present (d .1)) in
+          (x, root, d .2 ∙ ap Held (value-is s false (g .name) t w))
+
+      slots-of : length (r .order) ≤ budget → (gs : List Gift) → Tries gs → Lists (r .order) gs → InSlots (storedWords a) (storedBytes a) table gs
+      unfolding Tries Lists InSlots
+      slots-of h [] t l = tt
+      slots-of h (g ∷ gs) t l = (slot-of h g (t .0) (l .0), slots-of h gs (t .1) (l .1))
+
       pub comes : Comes r (storedWords a) (storedBytes a) (storedWords a′) (storedBytes a′) m
       comes = record {
         given = subst (λ (d : ℕ → Bool). Given (needs G d) (storedWords a) (storedBytes a) (storedWords a′) (storedBytes a′) (r .gives)) same (tries-given (r .gives) (k .gives));
+        shown = λ h. slots-of h (r .gives) (k .gives) (k .listed);
         lists = orders;
         finishes = λ h.
             let d = m .finished (let e = ap length orders in omega arith) in
