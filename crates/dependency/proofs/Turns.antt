@@ -9,9 +9,8 @@ use lib.ListN.{length, getD, set, take, drop, replicate, length-drop, length-map
 use lib.Seq.{length-take-le, getD-drop, ext-getD}
 use lib.Dec.{eqb, ltb, leb}
 use borrow.Author.Tests.{leb-true, leb-false}
-use Rattle.graph.specs.Members.{numbers, raised}
-use Rattle.graph.specs.Laws.Members.{ltb-yes, ltb-no}
-use Rattle.graph.specs.Graph.{Graph, Sound, Node}
+use Rattle.graph.specs.Laws.Members.{ltb-yes}
+use Rattle.graph.specs.Graph.{Graph, Sound}
 use Rattle.graph.specs.Transition.{State, searches, led, recordedAs, marked, searchedTo, resolvedTo, transition, transitions, first}
 use Rattle.graph.specs.Laws.Traversal.{Ends, traverse, within-square}
 use Rattle.graph.specs.Laws.Progress.{PlaceOK, Valid, valid-transitions, valid-first, transitions-suc, total, before-end, over-at, room-at, taken, pending, Awake, awake-next}
@@ -19,8 +18,7 @@ use Rattle.graph.specs.Laws.Numbers.{PlaceSmall, small-first}
 use Rattle.graph.specs.Laws.Transitions.{state-eq}
 use Rattle.graph.specs.declared.Place.{Place}
 use Rattle.graph.specs.declared.Place.the-variants.{Resolving, Starting, Searching, Closing, Between, Inside}
-use Rattle.ad.specs.Stored.{nodeCount}
-use Rattle.links.specs.Pair.{pairGraph, Measured, Stands}
+use Rattle.links.specs.Pair.{pairGraph, Measured}
 use Rattle.links.specs.Laws.Soundness.{pair-sound}
 use Rattle.links.specs.Laws.Numbering.{pair-size}
 use Rattle.marks.specs.Memory.{view, marksRoom, markWords, Clear, Roomy, Grows}

@@ -1,17 +1,17 @@
 -- Each way through a transition of a loop search: what it leaves is what the rule says. Assumes nothing.
-use mathlib.Core.Path.{_≡_, refl, sym, ap, _∙_, subst}
+use mathlib.Core.Path.{_≡_, refl, sym, ap, _∙_}
 use mathlib.Core.Logic.{_≢_}
-use mathlib.Core.Bool.{Bool, true, false, _||_}
+use mathlib.Core.Bool.{Bool, _||_}
 use mathlib.Core.List.{List, [], _∷_}
 use Prim.Native.Nat.{ℕ, zero, suc, _+_, _-_, _*_, _≤_, _<_, min}
 use native.Mathlib.Numerals.{add-one}
 use native.Mathlib.Omega.{arith}
-use lib.ListN.{length, getD, set, drop, drop-of-length-le}
+use lib.ListN.{length, set, drop, drop-of-length-le}
 use lib.Seq.{drop-cons}
 use Rattle.graph.specs.Members.{put, numbers, raised}
 use Rattle.graph.specs.Laws.Members.{ltb-yes, ltb-no}
 use Rattle.graph.specs.Graph.{Graph}
-use Rattle.graph.specs.Transition.{State, led, searchedTo, backOpen, backClosed, nextOpen, discover, close, transition}
+use Rattle.graph.specs.Transition.{led, searchedTo, backOpen, backClosed, nextOpen, discover, close, transition}
 use Rattle.graph.specs.Laws.Transitions.{state-eq, transition-seek, transition-skip, transition-discover, transition-cross, transition-tie, transition-leave-open, transition-collect, transition-close, transition-complete}
 use Rattle.graph.specs.declared.Place.{Place}
 use Rattle.graph.specs.declared.Place.the-variants.{Starting, Searching, Closing, Between}

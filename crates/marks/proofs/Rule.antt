@@ -6,12 +6,12 @@ use mathlib.Core.List.{List, [], _∷_, _++_}
 use Prim.Native.Nat.{ℕ, zero, suc, _+_, _-_, _*_, _≤_, _<_}
 use native.Mathlib.Numerals.{add-one}
 use native.Mathlib.Omega.{arith}
-use lib.ListN.{length, getD, set, take, drop, drop-of-length-le}
+use lib.ListN.{length, set, take, drop, drop-of-length-le}
 use lib.Seq.{drop-cons, getD-set-other, take-suc-set}
 use Rattle.graph.specs.Members.{put, numbers, raised}
 use Rattle.graph.specs.Laws.Members.{ltb-yes, ltb-no}
 use Rattle.graph.specs.Graph.{Graph}
-use Rattle.graph.specs.Transition.{State, start, needed, back, marked, searchedTo, resolvedTo, transition}
+use Rattle.graph.specs.Transition.{needed, back, marked, searchedTo, resolvedTo, transition}
 use Rattle.graph.specs.Laws.Transitions.{state-eq, transition-resolve, transition-begin, transition-omit, transition-pass, transition-enter, transition-leave}
 use Rattle.graph.specs.declared.Place.{Place}
 use Rattle.graph.specs.declared.Place.the-variants.{Resolving, Starting, Between, Inside}

@@ -2,14 +2,13 @@
 use Prim.Native.Nat.{ℕ, zero, suc, _+_, _-_, _*_, _≤_, _<_, min}
 use native.Mathlib.Omega.{arith}
 use mathlib.Core.Path.{_≡_, refl, sym, ap, _∙_, subst}
-use mathlib.Core.Logic.{_↔_, _⊎_, inl, inr}
-use mathlib.Core.Bool.{Bool, true, false, cond, _&&_}
+use mathlib.Core.Bool.{Bool, true, false, _&&_}
 use mathlib.Core.List.{List, [], _∷_, _++_, map}
-use lib.ListN.{length, getD, take, drop, replicate, length-append, length-map, length-replicate, List·getD-append}
+use lib.ListN.{length, getD, replicate, length-append, length-map, length-replicate, List·getD-append}
 use lib.Seq.{take-all}
-use Rattle.graph.specs.Members.{_∈_, here, there, Each, numbers, raised}
-use Rattle.graph.specs.Laws.Members.{mem-nil, mem-left, mem-right, at-mem}
-use Rattle.graph.specs.Graph.{Graph, Sound, Node, Circular, Flags, needs, Entered}
+use Rattle.graph.specs.Members.{_∈_, Each, raised}
+use Rattle.graph.specs.Laws.Members.{mem-nil, at-mem}
+use Rattle.graph.specs.Graph.{Graph, Sound, Node, needs, Entered}
 use Rattle.graph.specs.Laws.Traversal.{needs-links, needs-acyclic}
 use Rattle.links.specs.Pair.{pairGraph, rootsOf, requirements, rank, Formed, Stands, RootMarks}
 use Rattle.links.specs.Laws.Soundness.{pair-sound}
@@ -20,13 +19,12 @@ use Rattle.slots.specs.declared.Slot.{Slot}
 use Rattle.slots.specs.declared.Slot.the-variants.{Blank, Held}
 use Rattle.slots.specs.Packed.{slotAt}
 use Rattle.nodes.specs.Nodes.{valueIn}
-use Rattle.valuation.specs.Gives.{Gives}
-use Rattle.valuation.specs.Run.{runFrom, Ran}
+use Rattle.valuation.specs.Run.{Ran}
 use Rattle.valuation.specs.Laws.Values.{entered-in}
 use Rattle.valuation.specs.Laws.Transfer.{entered-part}
 use Rattle.valuation.specs.Laws.Runs.{run-ran}
-use Rattle.evaluation.specs.Evaluation.{ruleAt, seen, needed, entries, stepsWords, RunTo, AtRun}
-use Rattle.matching.specs.Matching.{isTrue, rankOf, worthAt, Worth, Concluded, Match}
+use Rattle.evaluation.specs.Evaluation.{ruleAt, seen, needed, entries, RunTo, AtRun}
+use Rattle.matching.specs.Matching.{isTrue, rankOf, worthAt, Worth, Match}
 use Rattle.matching.specs.Laws.Traversed.{entered-of, counted-of}
 use Rattle.matching.specs.Laws.Running.{run-from}
 use Rattle.matching.specs.Laws.Concluding.{worth-of, worth-marked, roots-first, roots-second, ranks-first, ranks-second}

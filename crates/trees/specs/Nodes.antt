@@ -3,7 +3,7 @@ use Prim.Native.Nat.{ℕ, _+_, _-_, _≤_}
 use mathlib.Core.Path.{_≡_}
 use mathlib.Core.List.{List, [], _∷_, _++_}
 use lib.ListN.{length, getD}
-use Rattle.syntax.specs.Tree.{Literal, undefined, Scope, Expr, literal, reference, unary, binary, conditional, Definition, Ad, size}
+use Rattle.syntax.specs.Tree.{Literal, undefined, Scope, Expr, literal, reference, unary, binary, conditional, Ad, size}
 use Rattle.syntax.specs.declared.Binary.{Binary}
 use Rattle.syntax.specs.declared.Unary.{Unary}
 use Rattle.ad.specs.Layout.{unaryKind, binaryKind, scopeKind, node, literalNode, literalBytes}

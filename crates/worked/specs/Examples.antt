@@ -2,7 +2,7 @@
 use Prim.Native.Nat.{ℕ}
 use native.Mathlib.Omega.{arith}
 use mathlib.Core.Path.{_≡_, refl}
-use mathlib.Core.Bool.{Bool, true, false, _&&_}
+use mathlib.Core.Bool.{true, false, _&&_}
 use mathlib.Core.List.{List, [], _∷_}
 use lib.IntN.{negsuc}
 use Rattle.text.specs.Bytes.{bytes, isBlank, isDigit, isLetter, startsName, continuesName, lowerCase}
@@ -17,16 +17,16 @@ use Rattle.ad.specs.Layout.{Named, literalNode, literalBytes, scopeKind, exprNo
 use Rattle.ad.specs.Stored.{arity, operands}
 use Rattle.links.specs.Pair.{both, definitionAt, requirements, rank, StoredAd}
 use Rattle.values.specs.declared.Value.{Value}
-use Rattle.values.specs.declared.Value.the-variants.{Undefined, Error, Boolean, Integer}
+use Rattle.values.specs.declared.Value.the-variants.{Undefined, Error, Boolean}
 use Rattle.integers.specs.Integers.{wrap, signed}
 use Rattle.nodes.specs.Nodes.{valueIn}
 use Rattle.evaluation.specs.Evaluation.{ruleAt}
 use Rattle.matching.specs.Matching.{isTrue, rankOf}
 use Rattle.worked.specs.Table as table
-use Rattle.worked.specs.Table.{Gift, Row, Holds, AllHold, alone, fault}
+use Rattle.worked.specs.Table.{Row, Holds, AllHold, alone, fault}
 use Rattle.worked.specs.Laws.Solving.{given, tryWith, attempt, list, among, behind, enterWith, enters}
 use Rattle.worked.specs.Laws.Circles.{reached, within, closedIn}
-use Rattle.worked.specs.Laws.Trees.{treeFrom, treeLinks, treeRefers, treeRoot, treeRoots, treeNodes, upTo, need, circles, allTried, circles-are, Tries, Lists, Checks, comes}
+use Rattle.worked.specs.Laws.Trees.{treeFrom, treeLinks, treeRefers, treeRoot, treeRoots, treeNodes, upTo, need, circles, allTried, circles-are, Tries, Lists, comes}
 
 -- 'definitions `name = expression`'
 unfoldable defined-as : List ℕ → Expr → Definition

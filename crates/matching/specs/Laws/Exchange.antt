@@ -1,21 +1,20 @@
 -- The two ads exchanged: a finished match keeps its verdict, and the ranks change places. Assumes nothing.
-use Prim.Native.Nat.{ℕ, zero, suc, _+_, _-_, _*_, _%_, _^_, _≤_, _<_}
+use Prim.Native.Nat.{ℕ, zero, suc, _+_, _-_, _%_, _^_, _≤_, _<_}
 use native.Mathlib.Decide.{decLt}
 use native.Mathlib.Omega.{arith}
 use mathlib.Core.Path.{_≡_, refl, sym, ap, ap₂, _∙_, subst}
-use mathlib.Core.Logic.{_≢_, _⊎_, inl, inr}
 use mathlib.Core.Bool.{Bool, true, false, cond, not, _&&_}
-use mathlib.Core.List.{List, [], _∷_, _++_, map}
+use mathlib.Core.List.{List, [], _∷_, map}
 use lib.ListN.{length}
 use lib.Dec.{eqb, ltb}
 use Rattle.syntax.specs.Bounds.{maxNodes}
-use Rattle.ad.specs.Stored.{kindAt, operandAt, nodeCount, operands, nameAt, find}
+use Rattle.ad.specs.Stored.{kindAt, operandAt, operands, nameAt, find}
 use Rattle.graph.specs.Members.{_∈_, here, there, Each}
-use Rattle.graph.specs.Laws.Members.{mem-nil, mem-cons, mem-left, mem-right, mem-append, ltb-yes, ltb-no, Sides}
-use Rattle.graph.specs.Graph.{Graph, Sound, Node, Flags, needs, Entered, IsList}
-use Rattle.links.specs.Pair.{Link, numbered, linked, inside, across, linksFrom, refersAt, both, rootsOf, requirements, rank, pairGraph, Formed}
+use Rattle.graph.specs.Laws.Members.{ltb-yes, ltb-no}
+use Rattle.graph.specs.Graph.{Graph, Node, Flags, needs}
+use Rattle.links.specs.Pair.{numbered, linked, inside, across, linksFrom, refersAt, both, rootsOf, requirements, rank, pairGraph, Formed}
 use Rattle.links.specs.Laws.Counting.{nodes-few, found-root}
-use Rattle.links.specs.Laws.Soundness.{both-low, both-high, root-in, links-each, node-sides, pair-sound}
+use Rattle.links.specs.Laws.Soundness.{both-low, both-high, root-in, links-each, pair-sound}
 use Rattle.values.specs.declared.Value.{Value}
 use Rattle.values.specs.declared.Value.the-variants.{Undefined, Error, Boolean, Integer, Real, String}
 use Rattle.values.specs.Values.{turned}
@@ -26,10 +25,10 @@ use Rattle.syntax.specs.declared.Unary.the-variants.{Not, Plus, Minus}
 use Rattle.operators.specs.Laws.Exchange.{binary-exchange, unary-exchange, conditional-exchange}
 use Rattle.nodes.specs.declared.Node as kind
 use Rattle.nodes.specs.declared.Node.the-variants.{Constant, Reference, OfOne, OfTwo, Conditional}
-use Rattle.nodes.specs.Nodes.{constantOf, nodeOf, applied, valueIn, ruleOf}
+use Rattle.nodes.specs.Nodes.{constantOf, nodeOf, applied, valueIn}
 use Rattle.valuation.specs.Gives.{Gives}
 use Rattle.valuation.specs.Laws.Values.{gives-unique}
-use Rattle.valuation.specs.Laws.Transfer.{Alike, anil, acons, Embeds, carries, gives-goes, mem-map, map-mem, map-join}
+use Rattle.valuation.specs.Laws.Transfer.{Alike, anil, acons, Embeds, carries, gives-goes, mem-map, map-mem}
 use Rattle.valuation.specs.Laws.Exchange.{list-exchanged}
 use Rattle.evaluation.specs.Evaluation.{nodeFrom, nodeAt, ruleAt}
 use Rattle.matching.specs.Matching.{isTrue, rankOf, Worth, absent, present, Concluded, Match}

@@ -9,7 +9,7 @@ use lib.IntN.{pos}
 use lib.Dec.{ltb, leb}
 use borrow.Author.Tests.{leb-true, ltb-true, lt-ltb}
 use Rattle.syntax.specs.Bounds.{maxInteger, stringBytes, realDigits}
-use Rattle.syntax.specs.Tree.{Literal, undefined, error, boolean, integer, real, string, Scope, Expr, literal, reference, unary, binary, conditional, Definition, Ad, size}
+use Rattle.syntax.specs.Tree.{Literal, undefined, error, boolean, integer, real, string, Scope, Expr, literal, reference, unary, binary, conditional, Ad, size}
 use Rattle.syntax.specs.declared.Binary.{Binary}
 use Rattle.syntax.specs.declared.Unary.{Unary}
 use Rattle.lexemes.specs.Lexeme.{isLiteral, isReal, isString, every, inString}

@@ -9,7 +9,7 @@ use lib.Dec.{ltb}
 use Rattle.text.specs.Strings.{sameName}
 use Rattle.syntax.specs.Bounds.{maxNodes}
 use Rattle.syntax.specs.Tree as tree
-use Rattle.syntax.specs.Tree.{undefined, Scope, other, Expr, reference, Definition, Ad, size, nodes}
+use Rattle.syntax.specs.Tree.{undefined, Scope, other, Expr, reference, Ad, size, nodes}
 use Rattle.syntax.specs.Grammar.{defined}
 use Rattle.ad.specs.Layout.{adBytes, adBytesRoom, storedWords, storedBytes}
 use Rattle.links.specs.Pair.{inside, across, linked, numbered, both, definitionAt, StoredAd}

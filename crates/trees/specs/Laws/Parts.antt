@@ -7,7 +7,7 @@ use mathlib.Core.Bool.{true, _&&_}
 use mathlib.Core.List.{List, [], _∷_, _++_, append-assoc}
 use lib.ListN.{length, getD, length-append}
 use lib.Seq.{getD-at}
-use Rattle.syntax.specs.Tree.{undefined, Expr, literal, reference, unary, binary, conditional, Definition, Ad, size, nodes}
+use Rattle.syntax.specs.Tree.{undefined, Expr, literal, reference, unary, binary, conditional, Ad, size, nodes}
 use Rattle.lexemes.specs.Lexeme.{isName}
 use Rattle.well_formed.specs.WellFormed.{isWritable, areWritable}
 use Rattle.well_formed.specs.Laws.Shapes.{and-left, and-right}

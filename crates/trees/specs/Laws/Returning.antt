@@ -6,7 +6,7 @@ use mathlib.Core.Logic.{_⊎_, inl, inr}
 use mathlib.Core.Bool.{Bool, true, false}
 use mathlib.Core.List.{List, [], _∷_, map}
 use Rattle.syntax.specs.Bounds.{maxNodes}
-use Rattle.syntax.specs.Tree.{Scope, Expr, literal, reference, unary, binary, conditional, Definition, Ad, size}
+use Rattle.syntax.specs.Tree.{Scope, Expr, literal, reference, unary, binary, conditional, Ad, size}
 use Rattle.ad.specs.Layout.{storedWords, storedBytes}
 use Rattle.graph.specs.Members.{_∈_, here, there}
 use Rattle.graph.specs.Laws.Members.{mem-nil, mem-cons}

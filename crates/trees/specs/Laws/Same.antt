@@ -3,11 +3,11 @@ use Prim.Native.Nat.{ℕ}
 use native.Mathlib.Omega.{arith}
 use mathlib.Core.Path.{_≡_, refl, sym, ap, _∙_, subst}
 use mathlib.Core.Bool.{Bool, true, false, not}
-use mathlib.Core.List.{List, []}
+use mathlib.Core.List.{List}
 use lib.ListN.{length}
 use Rattle.text.specs.Strings.{sameBytes, stringOrder}
 use Rattle.syntax.specs.Tree as tree
-use Rattle.syntax.specs.Tree.{Literal, Expr, Ad, Definition}
+use Rattle.syntax.specs.Tree.{Literal, Expr, Ad}
 use Rattle.syntax.specs.Grammar.{defined}
 use Rattle.syntax.specs.declared.Binary.{Binary}
 use Rattle.syntax.specs.declared.Binary.the-variants.{Or, And, Equal, NotEqual, Is, Isnt, Less, LessOrEqual, Greater, GreaterOrEqual, Add, Subtract, Multiply, Divide, Remainder}

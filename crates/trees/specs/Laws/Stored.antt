@@ -6,7 +6,7 @@ use mathlib.Core.Bool.{cond}
 use mathlib.Core.List.{List, [], _∷_, _++_, append-assoc}
 use lib.ListN.{length, getD, take, drop, replicate, length-append}
 use lib.Seq.{take-append-seam, drop-append-seam, drop-drop}
-use Rattle.syntax.specs.Tree.{Literal, undefined, error, boolean, integer, real, string, Scope, own, other, Expr, literal, reference, unary, binary, conditional, Definition, Ad, size, nodes}
+use Rattle.syntax.specs.Tree.{Literal, undefined, error, boolean, integer, real, string, Scope, own, other, Expr, literal, reference, unary, binary, conditional, Ad, size, nodes}
 use Rattle.syntax.specs.declared.Binary.{Binary}
 use Rattle.syntax.specs.declared.Binary.the-variants.{Or, And, Equal, NotEqual, Is, Isnt, Less, LessOrEqual, Greater, GreaterOrEqual, Add, Subtract, Multiply, Divide, Remainder}
 use Rattle.syntax.specs.declared.Unary.{Unary}
@@ -14,7 +14,6 @@ use Rattle.syntax.specs.declared.Unary.the-variants.{Not, Plus, Minus}
 use Rattle.ad.specs.Layout.{unaryKind, binaryKind, scopeKind, node, literalNode, literalBytes, exprBytes, exprNodes, adBytes, adNodes, nodeWords, adWords, adBytesRoom, padded, adDefinitions, storedWords, storedBytes}
 use Rattle.ad.specs.Stored.{kindAt, operandAt, operands, bytesAt, nameAt, arity}
 use Rattle.links.specs.Pair.{StoredAd}
-use Rattle.links.specs.Laws.Layout.{stored-definitions, stored-behind}
 use Rattle.trees.specs.Nodes.{Node, leaf, refers, ofOne, ofTwo, ofThree, nodesOf, nodesIn, nthNode, operandsOf, wordsOf, bytesOf, Says}
 
 -- ---- how many

@@ -2,13 +2,13 @@
 use Prim.Native.Nat.{ℕ, zero, suc}
 use native.Mathlib.Decide.{ℕ-discrete}
 use native.Mathlib.Omega.{arith}
-use mathlib.Core.Path.{_≡_, refl, sym, ap, _∙_, subst}
+use mathlib.Core.Path.{_≡_, refl, sym, subst}
 use mathlib.Core.Logic.{_⊎_, inl, inr}
 use mathlib.Core.Bool.{Bool, true, false, cond}
 use mathlib.Core.List.{List, [], _∷_, _++_}
 use lib.Dec.{eqb}
 use Rattle.syntax.specs.Token.{pick}
-use Rattle.graph.specs.Members.{_∈_, here, there, Each}
+use Rattle.graph.specs.Members.{_∈_, here, there}
 use Rattle.graph.specs.Laws.Members.{mem-nil, mem-cons, eqb-yes, eqb-no}
 use Rattle.graph.specs.Graph.{Path⁺, one, more, Entered, none, again, fresh}
 use Rattle.values.specs.declared.Value.{Value}

@@ -3,7 +3,7 @@ use Prim.Native.Nat.{ℕ, zero, suc, _+_, _-_, _≤_, _<_}
 use native.Mathlib.Omega.{arith}
 use native.Mathlib.Decide.{decLt}
 use mathlib.Core.Path.{_≡_, refl, sym, ap, ap₂, _∙_, subst, fun-ext}
-use mathlib.Core.Logic.{_↔_, _⊎_, inl, inr}
+use mathlib.Core.Logic.{inl, inr}
 use mathlib.Core.Bool.{Bool, true, false, cond, _&&_}
 use mathlib.Core.List.{List, [], _∷_, _++_, map}
 use lib.ListN.{length}
@@ -12,12 +12,12 @@ use lib.Dec.{ltb}
 use Rattle.syntax.specs.Bounds.{maxNodes}
 use Rattle.syntax.specs.Tree.{Ad, nodes}
 use Rattle.ad.specs.Layout.{storedWords, storedBytes}
-use Rattle.ad.specs.Stored.{kindAt, nodeCount, operands, nameAt, isOwn, isOther, isReference, find}
-use Rattle.graph.specs.Members.{_∈_, here, there, Each}
-use Rattle.graph.specs.Laws.Members.{mem-nil, mem-cons, mem-left, mem-right, mem-cast, ltb-yes, ltb-no, Sides}
+use Rattle.ad.specs.Stored.{kindAt, nodeCount, operands, nameAt, isOwn, isOther, isReference}
+use Rattle.graph.specs.Members.{_∈_, here, there}
+use Rattle.graph.specs.Laws.Members.{mem-nil, mem-cons, mem-left, mem-right, Sides}
 use Rattle.graph.specs.Graph.{Graph, Sound, Node, Path⁺, Circular, Flags, needs, Entered}
 use Rattle.graph.specs.Laws.Order.{entered-unique}
-use Rattle.links.specs.Pair.{Link, inside, across, linked, linksFrom, numbered, both, refersAt, rootsOf, requirements, rank, definitionAt, pairGraph, Formed, StoredAd}
+use Rattle.links.specs.Pair.{Link, inside, across, linked, linksFrom, numbered, both, refersAt, rootsOf, requirements, rank, definitionAt, pairGraph, StoredAd}
 use Rattle.links.specs.Laws.Layout.{stored-nodes, stored-formed}
 use Rattle.links.specs.Laws.Finding.{find-tree}
 use Rattle.links.specs.Laws.Soundness.{pair-sound, node-sides}
@@ -28,11 +28,11 @@ use Rattle.evaluation.specs.Evaluation.{ruleAt}
 use Rattle.matching.specs.Matching.{isTrue, rankOf, Worth, absent, present, Match}
 use Rattle.matching.specs.Laws.Concluding.{flags-same, worth-unique}
 use Rattle.matching.specs.declared.Outcome.{Outcome}
-use Rattle.matching.specs.declared.Outcome.the-variants.{Finished, Unfinished}
+use Rattle.matching.specs.declared.Outcome.the-variants.{Finished}
 use Rattle.slots.specs.declared.Slot.the-variants.{Held}
 use Rattle.slots.specs.Packed.{slotAt}
 use Rattle.worked.specs.Table.{Gift, Row, Given, InSlots, Comes}
-use Rattle.worked.specs.Laws.Solving.{Tried, given, attempt, attempted, list, among, among-in, enters, entered-by}
+use Rattle.worked.specs.Laws.Solving.{given, attempt, attempted, list, among, among-in, enters, entered-by}
 use Rattle.worked.specs.Laws.Circles.{never, cond-both, either, returns, enough, returns-path, path-returns}
 
 -- ---- links and roots by the trees: nothing is counted or looked up in words
