@@ -5,7 +5,8 @@ use Rattle.operands.specs.declared.Operands.{Operands}
 use Rattle.operands.specs.Operands.{operandsOf, numberOnly}
 use Rattle.arithmetic.specs.declared.Arithmetic.{Arithmetic}
 use Rattle.arithmetic.specs.Arithmetic.{arithmeticResult, arithmeticValue}
+use Rattle.arithmetic.specs.Laws.Strict.{arithmetic-by-pair}
 
 pub arithmetic-of : (op : Arithmetic) (a b : Value) {x y : Value} {p q : Operands} → x ≡ numberOnly a → y ≡ numberOnly b → p ≡ operandsOf x y → p ≡ q
     → arithmeticResult op q ≡ arithmeticValue op a b
-arithmetic-of op a b h k e f = ap (arithmeticResult op) (sym f ∙ e ∙ ap₂ operandsOf h k)
+arithmetic-of op a b h k e f = ap (arithmeticResult op) (sym f ∙ e ∙ ap₂ operandsOf h k) ∙ arithmetic-by-pair op a b

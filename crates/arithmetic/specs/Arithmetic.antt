@@ -1,18 +1,18 @@
 -- Arithmetic, and unary plus and minus. Assumes nothing.
 use Prim.Native.Nat.{ℕ}
-use mathlib.Core.Bool.{cond}
+use mathlib.Core.Bool.{true, cond, _&&_}
+use mathlib.Core.List.{[], _∷_}
 use lib.Dec.{eqb}
 use lib.Ieee as Ieee
 use lib.Ieee.{Float, binary64}
 use Rattle.integers.specs.Integers.{width, wrappedSum, wrappedDifference, wrappedProduct, wrappedNegation, truncatedQuotient, signedRemainder}
 use Rattle.values.specs.declared.Value.{Value}
-use Rattle.values.specs.declared.Value.the-variants.{Undefined, Error, Boolean, Integer, Real, String}
-use Rattle.values.specs.Values.{kinds}
+use Rattle.values.specs.declared.Value.the-variants.{Undefined, Error, Integer, Real}
 use Rattle.operands.specs.declared.Operands.{Operands}
 use Rattle.operands.specs.declared.Operands.the-variants.{Refused, Missing, Integers, Reals, Strings}
 use Rattle.arithmetic.specs.declared.Arithmetic.{Arithmetic}
 use Rattle.arithmetic.specs.declared.Arithmetic.the-variants.{Sum, Difference, Product, Quotient, Remainder}
-use Rattle.operands.specs.Operands.{operandsOf, numberOnly}
+use Rattle.operands.specs.Strict.{isInteger, isNumber, codeOf, toReal, strict}
 
 -- 'Integer `+ - *` .. wrap at 32 bits; `/` truncates, `%` takes the dividend's sign; a zero divisor is Error.'
 abbrev pub integersResult : Arithmetic → ℕ → ℕ → Value
@@ -31,22 +31,30 @@ realsResult Product x y = Ieee.mul binary64 x y
 realsResult Quotient x y = Ieee.div binary64 x y
 realsResult Remainder x y = Ieee.rem binary64 x y
 
--- '.. or the pair is not admitted: Error. Else if one is Undefined: Undefined. Else the result.'
+-- the result of two numbers: two Integers', else that of two Reals, as 'Mixed: the Integer becomes Real first.'
+abbrev pub numbersResult : Arithmetic → Value → Value → Value
+numbersResult op a b = cond (isInteger a && isInteger b) (integersResult op (codeOf a) (codeOf b)) (Real (realsResult op (toReal a) (toReal b)))
+
+-- 'Strict operators are arithmetic ..'; 'Arithmetic admits two numbers'
+abbrev pub arithmeticValue : Arithmetic → Value → Value → Value
+arithmeticValue op a b = strict isNumber (a ∷ b ∷ []) (isNumber a && isNumber b) (numbersResult op a b)
+
+-- 'Integer .. unary `-` wrap'; of a Real, its sign is turned over
+abbrev pub negated : Value → Value
+negated a = cond (isInteger a) (Integer (wrappedNegation width (codeOf a))) (Real (Ieee.neg (toReal a)))
+
+-- 'Strict operators are .. unary plus and minus': minus
+abbrev pub minusValue : Value → Value
+minusValue a = strict isNumber (a ∷ []) true (negated a)
+
+-- 'Strict operators are .. unary plus and minus': plus, which gives the number back
+abbrev pub plusValue : Value → Value
+plusValue a = strict isNumber (a ∷ []) true a
+
+-- what the code makes of the pair of operands
 abbrev pub arithmeticResult : Arithmetic → Operands → Value
 arithmeticResult op Refused = Error
 arithmeticResult op Missing = Undefined
 arithmeticResult op (Integers x y) = integersResult op x y
 arithmeticResult op (Reals x y) = Real (realsResult op x y)
 arithmeticResult op (Strings s o n t p m) = Error
-
--- 'Strict operators are arithmetic ..'; 'Arithmetic admits two numbers'
-abbrev pub arithmeticValue : Arithmetic → Value → Value → Value
-arithmeticValue op a b = arithmeticResult op (operandsOf (numberOnly a) (numberOnly b))
-
--- 'Integer .. unary `-` wrap'; strict, and admits a number
-abbrev pub minusValue : Value → Value
-minusValue = kinds Undefined Error (λ x. Error) (λ x. Integer (wrappedNegation width x)) (λ x. Real (Ieee.neg x)) (λ side offset length. Error)
-
--- 'unary plus': strict, and gives the number back
-abbrev pub plusValue : Value → Value
-plusValue = kinds Undefined Error (λ x. Error) (λ x. Integer x) (λ x. Real x) (λ side offset length. Error)

@@ -1,7 +1,7 @@
 -- The six comparisons. Assumes nothing.
 use Prim.Native.Nat.{ℕ}
-use mathlib.Core.Bool.{Bool, true, false, not}
-use mathlib.Core.List.{List}
+use mathlib.Core.Bool.{Bool, true, false, not, cond, _&&_, _||_}
+use mathlib.Core.List.{List, [], _∷_}
 use lib.Dec.{eqb}
 use lib.Ieee as Ieee
 use lib.Ieee.{Float}
@@ -11,12 +11,12 @@ use Rattle.text.specs.declared.Order.{Order}
 use Rattle.text.specs.declared.Order.the-variants.{Less, Same, Greater}
 use Rattle.values.specs.declared.Value.{Value}
 use Rattle.values.specs.declared.Value.the-variants.{Undefined, Error, Boolean}
-use Rattle.values.specs.Values.{bytesAt}
+use Rattle.values.specs.Values.{kinds, bytesAt}
 use Rattle.operands.specs.declared.Operands.{Operands}
 use Rattle.operands.specs.declared.Operands.the-variants.{Refused, Missing, Integers, Reals, Strings}
 use Rattle.comparison.specs.declared.Comparison.{Comparison}
 use Rattle.comparison.specs.declared.Comparison.the-variants.{Equal, NotEqual, Below, AtMost, Above, AtLeast}
-use Rattle.operands.specs.Operands.{operandsOf}
+use Rattle.operands.specs.Strict.{isInteger, isNumber, isString, codeOf, toReal, strict}
 
 -- 'the six comparisons' of two Integers, by the order of the whole numbers
 abbrev pub integersCompare : Comparison → ℕ → ℕ → Bool
@@ -51,7 +51,23 @@ orderHolds AtMost = byOrder true true false
 orderHolds Above = byOrder false false true
 orderHolds AtLeast = byOrder false true true
 
--- '.. or the pair is not admitted: Error. Else if one is Undefined: Undefined. Else the result.'
+-- the bytes of a String; of no other value are they asked
+abbrev pub bytesOf : List ℕ → List ℕ → Value → List ℕ
+bytesOf first second = kinds [] [] (λ x. []) (λ x. []) (λ x. []) (λ side offset length. bytesAt first second side offset length)
+
+-- whether a comparison of two Strings or two numbers holds: of two Integers as such, else 'Mixed: the Integer becomes Real first.'
+abbrev pub compares : List ℕ → List ℕ → Comparison → Value → Value → Bool
+compares first second op a b =
+    cond (isString a) (orderHolds op (stringOrder (bytesOf first second a) (bytesOf first second b)))
+    (cond (isInteger a && isInteger b) (integersCompare op (codeOf a) (codeOf b)) (realsCompare op (toReal a) (toReal b)))
+
+-- 'Strict operators are .. the six comparisons'; 'comparison two numbers or two Strings. Booleans are not compared.'
+abbrev pub comparisonValue : List ℕ → List ℕ → Comparison → Value → Value → Value
+comparisonValue first second op a b =
+    strict (λ v. isNumber v || isString v) (a ∷ b ∷ []) (isNumber a && isNumber b || isString a && isString b)
+    (Boolean (compares first second op a b))
+
+-- what the code makes of the pair of operands
 abbrev pub comparisonResult : List ℕ → List ℕ → Comparison → Operands → Value
 comparisonResult first second op Refused = Error
 comparisonResult first second op Missing = Undefined
@@ -59,7 +75,3 @@ comparisonResult first second op (Integers x y) = Boolean (integersCompare op x 
 comparisonResult first second op (Reals x y) = Boolean (realsCompare op x y)
 comparisonResult first second op (Strings s o n t p m) =
     Boolean (orderHolds op (stringOrder (bytesAt first second s o n) (bytesAt first second t p m)))
-
--- 'Strict operators are .. the six comparisons'; 'comparison two numbers or two Strings. Booleans are not compared.'
-abbrev pub comparisonValue : List ℕ → List ℕ → Comparison → Value → Value → Value
-comparisonValue first second op a b = comparisonResult first second op (operandsOf a b)

@@ -1,4 +1,5 @@
 -- What the rules make of values whose numbers fit their types fits too. Assumes nothing.
+use mathlib.Core.Path.{subst}
 use mathlib.Core.Bool.{Bool, true, false, cond}
 use mathlib.Core.List.{List}
 use Prim.Native.Nat.{ℕ}
@@ -23,8 +24,11 @@ use Rattle.operands.specs.Operands.{withUndefined, withInteger, withReal, withS
 use Rattle.arithmetic.specs.declared.Arithmetic.{Arithmetic}
 use Rattle.arithmetic.specs.declared.Arithmetic.the-variants as Arithmetic
 use Rattle.arithmetic.specs.Arithmetic.{integersResult, realsResult, arithmeticResult, arithmeticValue, minusValue, plusValue}
+use Rattle.arithmetic.specs.Laws.Strict.{arithmetic-by-pair}
 use Rattle.comparison.specs.declared.Comparison.{Comparison}
-use Rattle.comparison.specs.Comparison.{comparisonResult}
+use Rattle.comparison.specs.declared.Comparison.the-variants as comparison
+use Rattle.comparison.specs.Comparison.{comparisonResult, comparisonValue}
+use Rattle.comparison.specs.Laws.Strict.{comparison-by-pair}
 use Rattle.operators.specs.Operators.{binaryValue, unaryValue}
 
 row-sized : (f u t o : Value) (q : Truth) → Sized f → Sized u → Sized t → Sized o → Sized (row f u t o q)
@@ -118,20 +122,24 @@ computed op (Reals x y) h = reals-fit op x y h
 computed op (Strings s o n t p m) h = tt
 
 arithmetic-sized : (op : Arithmetic) (a b : Value) → Sized a → Sized (arithmeticValue op a b)
-arithmetic-sized op a b h = computed op (operandsOf (numberOnly a) (numberOnly b)) (dividend a (numberOnly b) h)
+arithmetic-sized op a b h =
+    subst Sized (arithmetic-by-pair op a b) (computed op (operandsOf (numberOnly a) (numberOnly b)) (dividend a (numberOnly b) h))
+
+comparison-sized : (first second : List ℕ) (op : Comparison) (a b : Value) → Sized (comparisonValue first second op a b)
+comparison-sized first second op a b = subst Sized (comparison-by-pair first second op a b) (compared first second op (operandsOf a b))
 
 -- ---- every operator
 pub binary-sized : (first second : List ℕ) (op : Binary) (a b : Value) → Sized a → Sized (binaryValue first second op a b)
 binary-sized first second Or a b h = or-sized (truthOf a) (truthOf b)
 binary-sized first second And a b h = and-sized (truthOf a) (truthOf b)
-binary-sized first second Equal a b h = compared first second _ (operandsOf a b)
-binary-sized first second NotEqual a b h = compared first second _ (operandsOf a b)
+binary-sized first second Equal a b h = comparison-sized first second comparison.Equal a b
+binary-sized first second NotEqual a b h = comparison-sized first second comparison.NotEqual a b
 binary-sized first second Is a b h = tt
 binary-sized first second Isnt a b h = tt
-binary-sized first second Less a b h = compared first second _ (operandsOf a b)
-binary-sized first second LessOrEqual a b h = compared first second _ (operandsOf a b)
-binary-sized first second Greater a b h = compared first second _ (operandsOf a b)
-binary-sized first second GreaterOrEqual a b h = compared first second _ (operandsOf a b)
+binary-sized first second Less a b h = comparison-sized first second comparison.Below a b
+binary-sized first second LessOrEqual a b h = comparison-sized first second comparison.AtMost a b
+binary-sized first second Greater a b h = comparison-sized first second comparison.Above a b
+binary-sized first second GreaterOrEqual a b h = comparison-sized first second comparison.AtLeast a b
 binary-sized first second Add a b h = arithmetic-sized Arithmetic.Sum a b h
 binary-sized first second Subtract a b h = arithmetic-sized Arithmetic.Difference a b h
 binary-sized first second Multiply a b h = arithmetic-sized Arithmetic.Product a b h

@@ -1,5 +1,4 @@
 pub mod Operators
-pub mod Strict
 pub mod Expressions
 pub mod Examples
 pub mod Laws

@@ -1,5 +1,5 @@
 -- The two ads exchanged: a String's side is turned over, and every rule gives the same. Assumes nothing.
-use mathlib.Core.Path.{_≡_, refl, sym, ap, ap₂, _∙_}
+use mathlib.Core.Path.{_≡_, refl, sym, ap, ap₂, _∙_, subst}
 use mathlib.Core.Bool.{Bool, true, false, not, cond}
 use mathlib.Core.List.{List}
 use Prim.Native.Nat.{ℕ}
@@ -23,8 +23,11 @@ use Rattle.operands.specs.Operands.{withUndefined, withInteger, withReal, withS
 use Rattle.arithmetic.specs.declared.Arithmetic.{Arithmetic}
 use Rattle.arithmetic.specs.declared.Arithmetic.the-variants as Arithmetic
 use Rattle.arithmetic.specs.Arithmetic.{integersResult, arithmeticResult, arithmeticValue, minusValue, plusValue}
+use Rattle.arithmetic.specs.Laws.Strict.{arithmetic-by-pair}
 use Rattle.comparison.specs.declared.Comparison.{Comparison}
+use Rattle.comparison.specs.declared.Comparison.the-variants as comparison
 use Rattle.comparison.specs.Comparison.{orderHolds, comparisonResult, comparisonValue}
+use Rattle.comparison.specs.Laws.Strict.{comparison-by-pair}
 use Rattle.operators.specs.Operators.{binaryValue, unaryValue}
 
 bytes-turned : (first second : List ℕ) (side : Bool) (o n : ℕ) → bytesAt second first (not side) o n ≡ bytesAt first second side o n
@@ -154,7 +157,9 @@ result-turned first second op (Strings s o n t p m) =
     ap₂ (λ (x y : List ℕ). Boolean (orderHolds op (stringOrder x y))) (bytes-turned first second s o n) (bytes-turned first second t p m)
 
 compare-turned : (first second : List ℕ) (op : Comparison) (a b : Value) → comparisonValue second first op (turned a) (turned b) ≡ comparisonValue first second op a b
-compare-turned first second op a b = ap (comparisonResult second first op) (pair-turned a b) ∙ result-turned first second op (operandsOf a b)
+compare-turned first second op a b =
+    sym (comparison-by-pair second first op (turned a) (turned b)) ∙ ap (comparisonResult second first op) (pair-turned a b)
+    ∙ result-turned first second op (operandsOf a b) ∙ comparison-by-pair first second op a b
 
 number-turned : (v : Value) → numberOnly (turned v) ≡ numberOnly v
 number-turned Undefined = refl
@@ -165,20 +170,22 @@ number-turned (Real y) = refl
 number-turned (String t p m) = refl
 
 compute-turned : (op : Arithmetic) (a b : Value) → arithmeticValue op (turned a) (turned b) ≡ arithmeticValue op a b
-compute-turned op a b = ap₂ (λ (x y : Value). arithmeticResult op (operandsOf x y)) (number-turned a) (number-turned b)
+compute-turned op a b =
+    sym (arithmetic-by-pair op (turned a) (turned b)) ∙ ap₂ (λ (x y : Value). arithmeticResult op (operandsOf x y)) (number-turned a) (number-turned b)
+    ∙ arithmetic-by-pair op a b
 
 -- ---- every operator: its result is the same, and is no String
 binary-turned : (first second : List ℕ) (op : Binary) (a b : Value) → binaryValue second first op (turned a) (turned b) ≡ binaryValue first second op a b
 binary-turned first second Or a b = ap₂ orTable (truth-turned a) (truth-turned b)
 binary-turned first second And a b = ap₂ andTable (truth-turned a) (truth-turned b)
-binary-turned first second Equal a b = compare-turned first second _ a b
-binary-turned first second NotEqual a b = compare-turned first second _ a b
+binary-turned first second Equal a b = compare-turned first second comparison.Equal a b
+binary-turned first second NotEqual a b = compare-turned first second comparison.NotEqual a b
 binary-turned first second Is a b = ap Boolean (same-turned first second a b)
 binary-turned first second Isnt a b = ap (λ (t : Bool). Boolean (not t)) (same-turned first second a b)
-binary-turned first second Less a b = compare-turned first second _ a b
-binary-turned first second LessOrEqual a b = compare-turned first second _ a b
-binary-turned first second Greater a b = compare-turned first second _ a b
-binary-turned first second GreaterOrEqual a b = compare-turned first second _ a b
+binary-turned first second Less a b = compare-turned first second comparison.Below a b
+binary-turned first second LessOrEqual a b = compare-turned first second comparison.AtMost a b
+binary-turned first second Greater a b = compare-turned first second comparison.Above a b
+binary-turned first second GreaterOrEqual a b = compare-turned first second comparison.AtLeast a b
 binary-turned first second Add a b = compute-turned Arithmetic.Sum a b
 binary-turned first second Subtract a b = compute-turned Arithmetic.Difference a b
 binary-turned first second Multiply a b = compute-turned Arithmetic.Product a b
@@ -240,6 +247,13 @@ compared-plain first second op (Integers x y) = refl
 compared-plain first second op (Reals x y) = refl
 compared-plain first second op (Strings s o n t p m) = refl
 
+arithmetic-plain : (op : Arithmetic) (a b : Value) → turned (arithmeticValue op a b) ≡ arithmeticValue op a b
+arithmetic-plain op a b = subst (λ (v : Value). turned v ≡ v) (arithmetic-by-pair op a b) (computed-plain op (operandsOf (numberOnly a) (numberOnly b)))
+
+comparison-plain : (first second : List ℕ) (op : Comparison) (a b : Value) → turned (comparisonValue first second op a b) ≡ comparisonValue first second op a b
+comparison-plain first second op a b =
+    subst (λ (v : Value). turned v ≡ v) (comparison-by-pair first second op a b) (compared-plain first second op (operandsOf a b))
+
 and-plain : (p q : Truth) → turned (andTable p q) ≡ andTable p q
 and-plain truth.F q = row-turned _ _ _ _ q
 and-plain truth.U q = row-turned _ _ _ _ q
@@ -255,19 +269,19 @@ or-plain truth.O q = row-turned _ _ _ _ q
 binary-plain : (first second : List ℕ) (op : Binary) (a b : Value) → turned (binaryValue first second op a b) ≡ binaryValue first second op a b
 binary-plain first second Or a b = or-plain (truthOf a) (truthOf b)
 binary-plain first second And a b = and-plain (truthOf a) (truthOf b)
-binary-plain first second Equal a b = compared-plain first second _ (operandsOf a b)
-binary-plain first second NotEqual a b = compared-plain first second _ (operandsOf a b)
+binary-plain first second Equal a b = comparison-plain first second comparison.Equal a b
+binary-plain first second NotEqual a b = comparison-plain first second comparison.NotEqual a b
 binary-plain first second Is a b = refl
 binary-plain first second Isnt a b = refl
-binary-plain first second Less a b = compared-plain first second _ (operandsOf a b)
-binary-plain first second LessOrEqual a b = compared-plain first second _ (operandsOf a b)
-binary-plain first second Greater a b = compared-plain first second _ (operandsOf a b)
-binary-plain first second GreaterOrEqual a b = compared-plain first second _ (operandsOf a b)
-binary-plain first second Add a b = computed-plain Arithmetic.Sum (operandsOf (numberOnly a) (numberOnly b))
-binary-plain first second Subtract a b = computed-plain Arithmetic.Difference (operandsOf (numberOnly a) (numberOnly b))
-binary-plain first second Multiply a b = computed-plain Arithmetic.Product (operandsOf (numberOnly a) (numberOnly b))
-binary-plain first second Divide a b = computed-plain Arithmetic.Quotient (operandsOf (numberOnly a) (numberOnly b))
-binary-plain first second Remainder a b = computed-plain Arithmetic.Remainder (operandsOf (numberOnly a) (numberOnly b))
+binary-plain first second Less a b = comparison-plain first second comparison.Below a b
+binary-plain first second LessOrEqual a b = comparison-plain first second comparison.AtMost a b
+binary-plain first second Greater a b = comparison-plain first second comparison.Above a b
+binary-plain first second GreaterOrEqual a b = comparison-plain first second comparison.AtLeast a b
+binary-plain first second Add a b = arithmetic-plain Arithmetic.Sum a b
+binary-plain first second Subtract a b = arithmetic-plain Arithmetic.Difference a b
+binary-plain first second Multiply a b = arithmetic-plain Arithmetic.Product a b
+binary-plain first second Divide a b = arithmetic-plain Arithmetic.Quotient a b
+binary-plain first second Remainder a b = arithmetic-plain Arithmetic.Remainder a b
 
 minus-plain : (v : Value) → turned (minusValue v) ≡ minusValue v
 minus-plain Undefined = refl

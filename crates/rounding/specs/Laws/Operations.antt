@@ -85,7 +85,7 @@ pos-neg a zero = go (ltb a 0) (ltb→lt a 0)
     go false h = ap pos (add-zero a ∙ sym (sub-zero a))
 pos-neg a (suc b) = refl
 
--- the kit's `sum` rounds the exact sum
+-- `sum` rounds the exact sum
 module _ (f : Format) (c a b : ℕ) where
   abbrev exact : Bool → Bool → ℤ → Float
   exact s t z = round f (sumSign z s t) (natAbs z) c

@@ -1,7 +1,7 @@
 -- A fraction has one nearest value, so that `Nearest` and `round` say the same. Assumes nothing.
 use mathlib.Core.Path.{_≡_, refl, sym, ap, ap₂, _∙_, subst}
 use mathlib.Core.Bool.{Bool, cond}
-use mathlib.Core.Logic.{inl, inr}
+use mathlib.Core.Logic.{_↔_, inl, inr}
 use Prim.Native.Nat.{ℕ, suc, _+_, _-_, _*_, _/_, _%_, _^_, _≤_, _<_}
 use native.Mathlib.Nat.{le-antisymm, lt-trans, lt-of-mul-lt-mul-right, ne-of-gt, not-le-of-lt, mul-right-comm, mul-le-mul-right, mul-lt-mul-of-pos-right, mul-mod-left, pow-suc, eq-of-mul-eq-mul-right, lt-suc-self}
 use native.Mathlib.Omega.{arith}
@@ -109,3 +109,8 @@ nearest-one f s num den (fin t m e) (fin u n d) D p q h k =
 -- so `round` is the nearest value, and nothing else is
 pub nearest-round : (f : Format) (s : Bool) (num den : ℕ) (x : Float) → 0 < den → T (fits f x) → Nearest f s num den x → x ≡ round f s num den
 nearest-round f s num den x D p h = nearest-one f s num den x (round f s num den) D p (round-fits f s num den) h (round-nearest f s num den D)
+
+-- TO ROUND ONCE IS `round`: a value of the format is the nearest to a fraction exactly if it is what `round` gives
+pub nearest-is-round : (f : Format) (s : Bool) (num den : ℕ) (x : Float) → 0 < den → T (fits f x) → Nearest f s num den x ↔ (x ≡ round f s num den)
+nearest-is-round f s num den x D p =
+    (nearest-round f s num den x D p, λ e. subst (λ (y : Float). Nearest f s num den y) (sym e) (round-nearest f s num den D))

@@ -5,9 +5,8 @@ use mathlib.Core.Path.{_≡_, refl, sym, ap, _∙_, subst}
 use mathlib.Core.Bool.{Bool, true, false, cond, not, _&&_}
 use mathlib.Core.List.{List, [], _∷_, map}
 use lib.ListN.{length, getD}
-use lib.IntN.{pos}
 use lib.Dec.{ltb, leb}
-use borrow.Author.Tests.{leb-true, ltb-true, lt-ltb}
+use borrow.Author.Tests.{leb-true, ltb-true}
 use Rattle.syntax.specs.Bounds.{maxInteger, stringBytes, realDigits}
 use Rattle.syntax.specs.Tree.{Literal, undefined, error, boolean, integer, real, string, Scope, Expr, literal, reference, unary, binary, conditional, Ad, size}
 use Rattle.syntax.specs.declared.Binary.{Binary}
@@ -19,11 +18,11 @@ use Rattle.graph.specs.Graph.{Flags, needs}
 use Rattle.links.specs.Pair.{linked, numbered, definitionAt}
 use Rattle.well_formed.specs.WellFormed.{isWritable, Holds}
 use Rattle.well_formed.specs.Laws.Shapes.{and-left, and-right}
-use Rattle.integers.specs.Integers.{width, signed}
 use Rattle.values.specs.declared.Value.{Value}
 use Rattle.values.specs.declared.Value.the-variants.{Undefined}
 use Rattle.nodes.specs.declared.Node.the-variants.{Constant, Reference, OfOne, OfTwo, Conditional}
 use Rattle.nodes.specs.Nodes.{literalValue, nodeOf, valueIn}
+use Rattle.nodes.specs.Laws.Integers.{integer-literal}
 use Rattle.nodes.specs.Laws.Stored.{LiteralFits, literal-value, reference-node, unary-node, binary-node}
 use Rattle.valuation.specs.Gives.{Give, nil, cons, Gives}
 use Rattle.valuation.specs.Laws.Transfer.{Alike, anil, acons}
@@ -51,18 +50,13 @@ literal-fits o (real n places) h k = (
 literal-fits o (string l) h k =
     (k, let q : length l ≤ stringBytes = leb-true (length l) stringBytes (and-right (every inString l) (leb (length l) stringBytes) h) in omega arith)
 
--- an Integer's code is that of its number
-small-signed : (n : ℕ) → n ≤ maxInteger → signed width n ≡ pos n
-unfolding signed
-small-signed n h = rw (lt-ltb n 2147483648 (let q : n < 2147483648 = omega arith in q)) refl
-
 -- a stored literal's value is the literal's
 literal-denotes : (second : Bool) (b : List ℕ) (o : ℕ) (l : Literal) → LiteralFits o l → bytesAt b o (length (bytesOf (leaf l))) ≡ bytesOf (leaf l) → Denotes second b l (literalValue second o l)
 unfolding LiteralFits Denotes literalValue bytesOf literalBytes
 literal-denotes second b o undefined f h = refl
 literal-denotes second b o error f h = refl
 literal-denotes second b o (boolean t) f h = refl
-literal-denotes second b o (integer n) f h = (refl, small-signed n f)
+literal-denotes second b o (integer n) f h = (refl, integer-literal n f)
 literal-denotes second b o (real n places) f h = refl
 literal-denotes second b o (string l) f h = (o, refl, h)
 

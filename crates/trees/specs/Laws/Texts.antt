@@ -22,10 +22,12 @@ use Rattle.operands.specs.declared.Operands.the-variants.{Refused, Missing, Int
 use Rattle.operands.specs.Operands.{operandsOf, numberOnly}
 use Rattle.arithmetic.specs.declared.Arithmetic.{Arithmetic}
 use Rattle.arithmetic.specs.declared.Arithmetic.the-variants as arithmetic
-use Rattle.arithmetic.specs.Arithmetic.{arithmeticResult, integersResult}
+use Rattle.arithmetic.specs.Arithmetic.{arithmeticResult, arithmeticValue, integersResult}
+use Rattle.arithmetic.specs.Laws.Strict.{arithmetic-by-pair}
 use Rattle.comparison.specs.declared.Comparison.{Comparison}
 use Rattle.comparison.specs.declared.Comparison.the-variants as comparison
-use Rattle.comparison.specs.Comparison.{comparisonResult}
+use Rattle.comparison.specs.Comparison.{comparisonResult, comparisonValue}
+use Rattle.comparison.specs.Laws.Strict.{comparison-by-pair}
 use Rattle.operators.specs.Operators.{binaryValue, unaryValue}
 use Rattle.trees.specs.Values.{Denotes, adOf, Means, is-literal, is-circular, is-absent, is-found, is-unary, is-binary, is-conditional, Part, whole, taken, otherwise, FromLiteral}
 use Rattle.trees.specs.Laws.Own.{finds-defines}
@@ -81,22 +83,28 @@ plain-computed c (Integers x y) = plain-integers c x y
 plain-computed c (Reals x y) = plain-real _
 plain-computed c (Strings s o n t p m) = plain-error
 
+plain-arithmetic : (c : Arithmetic) (x y : Value) → Plain (arithmeticValue c x y)
+plain-arithmetic c x y = subst Plain (arithmetic-by-pair c x y) (plain-computed c (operandsOf (numberOnly x) (numberOnly y)))
+
+plain-comparison : (first second : List ℕ) (c : Comparison) (x y : Value) → Plain (comparisonValue first second c x y)
+plain-comparison first second c x y = subst Plain (comparison-by-pair first second c x y) (plain-compared first second c (operandsOf x y))
+
 plain-binary : (first second : List ℕ) (j : Binary) (x y : Value) → Plain (binaryValue first second j x y)
 plain-binary first second Or x y = plain-or (truthOf x) (truthOf y)
 plain-binary first second And x y = plain-and (truthOf x) (truthOf y)
-plain-binary first second Equal x y = plain-compared first second comparison.Equal (operandsOf x y)
-plain-binary first second NotEqual x y = plain-compared first second comparison.NotEqual (operandsOf x y)
+plain-binary first second Equal x y = plain-comparison first second comparison.Equal x y
+plain-binary first second NotEqual x y = plain-comparison first second comparison.NotEqual x y
 plain-binary first second Is x y = plain-boolean _
 plain-binary first second Isnt x y = plain-boolean _
-plain-binary first second Less x y = plain-compared first second comparison.Below (operandsOf x y)
-plain-binary first second LessOrEqual x y = plain-compared first second comparison.AtMost (operandsOf x y)
-plain-binary first second Greater x y = plain-compared first second comparison.Above (operandsOf x y)
-plain-binary first second GreaterOrEqual x y = plain-compared first second comparison.AtLeast (operandsOf x y)
-plain-binary first second Add x y = plain-computed arithmetic.Sum (operandsOf (numberOnly x) (numberOnly y))
-plain-binary first second Subtract x y = plain-computed arithmetic.Difference (operandsOf (numberOnly x) (numberOnly y))
-plain-binary first second Multiply x y = plain-computed arithmetic.Product (operandsOf (numberOnly x) (numberOnly y))
-plain-binary first second Divide x y = plain-computed arithmetic.Quotient (operandsOf (numberOnly x) (numberOnly y))
-plain-binary first second Remainder x y = plain-computed arithmetic.Remainder (operandsOf (numberOnly x) (numberOnly y))
+plain-binary first second Less x y = plain-comparison first second comparison.Below x y
+plain-binary first second LessOrEqual x y = plain-comparison first second comparison.AtMost x y
+plain-binary first second Greater x y = plain-comparison first second comparison.Above x y
+plain-binary first second GreaterOrEqual x y = plain-comparison first second comparison.AtLeast x y
+plain-binary first second Add x y = plain-arithmetic arithmetic.Sum x y
+plain-binary first second Subtract x y = plain-arithmetic arithmetic.Difference x y
+plain-binary first second Multiply x y = plain-arithmetic arithmetic.Product x y
+plain-binary first second Divide x y = plain-arithmetic arithmetic.Quotient x y
+plain-binary first second Remainder x y = plain-arithmetic arithmetic.Remainder x y
 
 plain-plus : (x : Value) → Plain (unaryValue Plus x)
 plain-plus Undefined = plain-undefined
