@@ -20,11 +20,6 @@ pub data Tried : Type 0 where
   failed : Tried
   given : List Value → Tried
 
--- the values found, if any
-abbrev pub valuesOf : Tried → List Value
-valuesOf failed = []
-valuesOf (given vs) = vs
-
 abbrev join : (List Value → Value) → Tried → Tried → Tried
 join r failed t = failed
 join r (given us) failed = failed
@@ -68,23 +63,10 @@ module _ (need : ℕ → List ℕ) (rule : ℕ → List Value → Value) where
   unfolding Good
   attempted f xs vs e = subst (Good xs) e (attempt-good f xs)
 
--- what has a value leads to itself by no path
+-- a path with one more link
 pub path-more : {go : ℕ → List ℕ} {x y z : ℕ} → Path⁺ go x y → z ∈ go y → Path⁺ go x z
 path-more (one m) k = more m (one k)
 path-more (more m p) k = more m (path-more p k)
-
-module _ {need : ℕ → List ℕ} where
-  loop : (x u : ℕ) → ((y : ℕ) → y ∈ need x → ¬ (Path⁺ need y y)) → u ≡ x → ¬ (Path⁺ need u u)
-  loop x u h q (one k) = h u (subst (λ (z : ℕ). u ∈ need z) q k) (one k)
-  loop x u h q (more {y = z} k r) = h z (subst (λ (t : ℕ). z ∈ need t) q k) (path-more r k)
-
-  apart : (x : ℕ) (xs : List ℕ) (y : ℕ) → ((z : ℕ) → z ∈ need x → ¬ (Path⁺ need z z)) → (y ∈ xs → ¬ (Path⁺ need y y)) → (y ≡ x) ⊎ (y ∈ xs) → ¬ (Path⁺ need y y)
-  apart x xs y h k (inl q) = loop x y h q
-  apart x xs y h k (inr m) = k m
-
-pub given-straight : {A : Type 0} {need : ℕ → List ℕ} {rule : ℕ → List A → A} {xs : List ℕ} {vs : List A} → Give need rule xs vs → (y : ℕ) → y ∈ xs → ¬ (Path⁺ need y y)
-given-straight nil y m = absurd (mem-nil m)
-given-straight (cons {x = x} {xs = xs} d e) y m = apart x xs y (λ z k. given-straight d z k) (λ k. given-straight e y k) (mem-cons m)
 
 -- ---- the list
 
