@@ -26,7 +26,9 @@ pub copy-end : (s z : List ℕ) (i j q : ℕ) → q ≤ i → z ≡ sets z j (sl
 copy-end s z i j q h = rw (slice-back s i q h) refl
 
 pub cleared : (d : List ℕ) (i : ℕ) → length d ≤ i → i ≤ length d → replicate i 0 ++ drop i d ≡ replicate (length d) 0
-cleared d i h h′ = let e : i ≡ length d = omega arith in rw (drop-of-length-le d h, append-nil) (ap (λ (k : ℕ). replicate k 0) e)
+cleared d i h h′ =
+    let e : i ≡ length d = omega arith in
+    rw (drop-of-length-le d h, append-nil) (ap (λ (k : ℕ). replicate k 0) e)
 
 -- ---- a name is looked for
 

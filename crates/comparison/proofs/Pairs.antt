@@ -11,4 +11,5 @@ use Rattle.comparison.specs.Laws.Strict.{comparison-by-pair}
 
 pub comparison-of : (first second : List ℕ) (op : Comparison) (a b : Value) {p q : Operands} → p ≡ operandsOf a b → p ≡ q
     → comparisonResult first second op q ≡ comparisonValue first second op a b
-comparison-of first second op a b e f = ap (comparisonResult first second op) (sym f ∙ e) ∙ comparison-by-pair first second op a b
+comparison-of first second op a b e f =
+    ap (comparisonResult first second op) (sym f ∙ e) ∙ comparison-by-pair first second op a b

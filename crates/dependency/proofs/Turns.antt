@@ -27,7 +27,9 @@ use Rattle.dependency.specs.Laws.Use.{clear-zeros}
 use Rattle.dependency.proofs.Steps.{nodes-few, size-is}
 
 -- a mark within the slots is what it records
-recorded-is : (H : Graph) (t : ℕ) (l : List ℕ) → ((y : ℕ) → t ≡ suc y → y < H .slots) → recordedAs H t ≡ l → t ≡ marked l
+recorded-is :
+    (H : Graph) (t : ℕ) (l : List ℕ) → ((y : ℕ) → t ≡ suc y → y < H .slots) → recordedAs H t ≡ l → t
+    ≡ marked l
 unfolding recordedAs
 recorded-is H zero l h e = ap marked e
 recorded-is H (suc y) l h e = ap marked (rw (ltb-yes (h y refl)) at e)
@@ -43,7 +45,9 @@ set-bit (a ∷ l) (suc i) zero k = k
 set-bit (a ∷ l) (suc i) (suc j) k = set-bit l i j k
 
 -- a transition keeps flags of 0 and 1
-flagged-bits : (pl : Place) (fl fl′ : List ℕ) → ((x : ℕ) → getD fl x 0 ≤ 1) → FlaggedFrom pl fl fl′ → (x : ℕ) → getD fl′ x 0 ≤ 1
+flagged-bits :
+    (pl : Place) (fl fl′ : List ℕ) → ((x : ℕ) → getD fl x 0 ≤ 1) → FlaggedFrom pl fl fl′ → (x : ℕ) →
+    getD fl′ x 0 ≤ 1
 flagged-bits (Resolving i) fl fl′ h e x = rw e (h x)
 flagged-bits (Starting k) fl fl′ h e x = rw e (h x)
 flagged-bits (Searching k y top high low) fl fl′ h (inl e) x = rw e (h x)

@@ -17,7 +17,9 @@ entries-long len list h = length-map (take len list) (λ e. e - 1) ∙ length-ta
 
 entries-at : (len : ℕ) (list : List ℕ) (i : ℕ) → i < len → getD (entries len list) i 0 ≡ getD list i 0 - 1
 unfolding entries
-entries-at len list i h = List·getD-map (λ (e : ℕ). e - 1) (take len list) i 0 ∙ ap (λ (e : ℕ). e - 1) (getD-take len list i 0 h)
+entries-at len list i h =
+    List·getD-map (λ (e : ℕ). e - 1) (take len list) i 0
+    ∙ ap (λ (e : ℕ). e - 1) (getD-take len list i 0 h)
 
 -- before a step, n having been made
 pub record Turn (v b w c target flag list : List ℕ) (len k budget n : ℕ) (table₀ table : List ℕ) : Type 0 where

@@ -29,7 +29,9 @@ use Rattle.expressions.proofs.Words.{more, restored, nodes-of, words-bi
 
 -- ---- the token in front
 
-binary-off : (b : ℕ) (u : Tokens) (then : Binary → ℕ → Tokens → Parsed) (otherwise : Unit {0} → Parsed) → NotBinary b u → onBinary b u then otherwise ≡ otherwise tt
+binary-off :
+    (b : ℕ) (u : Tokens) (then : Binary → ℕ → Tokens → Parsed) (otherwise : Unit {0} → Parsed) →
+    NotBinary b u → onBinary b u then otherwise ≡ otherwise tt
 binary-off b (next p (T.word w) u) then otherwise h = refl
 binary-off b (next p (T.constant l) u) then otherwise h = refl
 binary-off b (next p (T.operator j) u) then otherwise h = rw (ne-eqb (bindsOf j) b h) refl
@@ -37,15 +39,23 @@ binary-off b (next p (T.symbol x) u) then otherwise h = refl
 binary-off b (end n) then otherwise h = refl
 binary-off b (bad k p) then otherwise h = refl
 
-unary-off : (u : Tokens) (then : Unary → ℕ → Tokens → Parsed) (otherwise : Unit {0} → Parsed) → ((o : Unary) → NotToken (unaryToken o) u) → onUnary u then otherwise ≡ otherwise tt
-unary-off u then otherwise h = token-off (unaryToken Not) u _ _ (h Not) ∙ (token-off (unaryToken Plus) u _ _ (h Plus) ∙ token-off (unaryToken Minus) u _ _ (h Minus))
+unary-off :
+    (u : Tokens) (then : Unary → ℕ → Tokens → Parsed) (otherwise : Unit {0} → Parsed) →
+    ((o : Unary) → NotToken (unaryToken o) u) → onUnary u then otherwise ≡ otherwise tt
+unary-off u then otherwise h =
+    token-off (unaryToken Not) u _ _ (h Not)
+    ∙ (token-off (unaryToken Plus) u _ _ (h Plus) ∙ token-off (unaryToken Minus) u _ _ (h Minus))
 
-unary-on : (o : Unary) (p : ℕ) (v : Tokens) (then : Unary → ℕ → Tokens → Parsed) (otherwise : Unit {0} → Parsed) → onUnary (next p (unaryToken o) v) then otherwise ≡ then o p v
+unary-on :
+    (o : Unary) (p : ℕ) (v : Tokens) (then : Unary → ℕ → Tokens → Parsed)
+    (otherwise : Unit {0} → Parsed) → onUnary (next p (unaryToken o) v) then otherwise ≡ then o p v
 unary-on Not p v then otherwise = refl
 unary-on Plus p v then otherwise = refl
 unary-on Minus p v then otherwise = refl
 
-want-off : (x : T.Token) (u : Tokens) (go : Tokens → Parsed) (k p : ℕ) → NotToken x u × Misfit k p u → want x u go ≡ refused k p
+want-off :
+    (x : T.Token) (u : Tokens) (go : Tokens → Parsed) (k p : ℕ) → NotToken x u × Misfit k p u → want
+    x u go ≡ refused k p
 want-off x u go k p (n, f) = token-off x u _ _ n ∙ misfit-of refused k p u f
 
 -- how many nodes were counted, with one operator more begun

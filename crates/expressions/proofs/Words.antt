@@ -30,8 +30,13 @@ length-nodes n o (unary u a) = simp length-append (omega (arith, length-nodes n 
 length-nodes n o (binary j a b) = simp length-append (omega (arith, length-nodes n o a, length-nodes (n + size a) (o + length (exprBytes a)) b))
 length-nodes n o (conditional a b c) = simp length-append (omega (arith, length-nodes n o a, length-nodes (n + size a) (o + length (exprBytes a)) b, length-nodes (n + size a + size b) (o + length (exprBytes a) + length (exprBytes b)) c))
 
-sets-nodes : (w : List ℕ) (n o : ℕ) (e : Expr) (ys : List ℕ) → sets w (4 * n) (exprNodes n o e ++ ys) ≡ sets (sets w (4 * n) (exprNodes n o e)) (4 * (n + size e)) ys
-sets-nodes w n o e ys = sets-append (exprNodes n o e) ys w (4 * n) ∙ ap (λ (k : ℕ). sets (sets w (4 * n) (exprNodes n o e)) k ys) (omega (arith, length-nodes n o e))
+sets-nodes :
+    (w : List ℕ) (n o : ℕ) (e : Expr) (ys : List ℕ) → sets w (4 * n) (exprNodes n o e ++ ys) ≡ sets
+    (sets w (4 * n) (exprNodes n o e)) (4 * (n + size e)) ys
+sets-nodes w n o e ys =
+    sets-append (exprNodes n o e) ys w (4 * n)
+    ∙ ap (λ (k : ℕ). sets (sets w (4 * n) (exprNodes n o e)) k ys)
+    (omega (arith, length-nodes n o e))
 
 pub stores : {w w′ b b′ : List ℕ} → w ≡ w′ → b ≡ b′ → memory w b ≡ memory w′ b′
 stores p q = λ i. record { words = p i; bytes = q i }

@@ -57,19 +57,27 @@ pub record Reached (w b : List ℕ) (i : ℕ) (t : List ℕ) : Type 0 where
   pub stands : Run w b first i byte tree
   pub text : t ≡ printed tree
 
-here : {w b : List ℕ} {s i o : ℕ} (e : Expr) (k : ℕ) (t : List ℕ) → Run w b s i o e → k ≡ i → t ≡ printed e → Reached w b k t
+here :
+    {w b : List ℕ} {s i o : ℕ} (e : Expr) (k : ℕ) (t : List ℕ) → Run w b s i o e → k ≡ i → t ≡
+    printed e → Reached w b k t
 here {w} {b} {s} {i} {o} e k t r h g = record { tree = e; first = s; byte = o; stands = subst (λ (x : ℕ). Run w b s x o e) (sym h) r; text = g }
 
 moved : {w b : List ℕ} {i i′ : ℕ} {t t′ : List ℕ} → i ≡ i′ → t ≡ t′ → Reached w b i t → Reached w b i′ t′
 moved {w} {b} {i} {i′} {t} {t′} h g r = subst (λ (x : ℕ). Reached w b x t′) h (subst (Reached w b i) g r)
 
 -- the last of some
-end : {w b : List ℕ} {s i o : ℕ} (e : Expr) (k m : ℕ) → Run w b s i o e → k ≡ i → m ≡ 0 → Reached w b k (textAt (e ∷ []) m)
+end :
+    {w b : List ℕ} {s i o : ℕ} (e : Expr) (k m : ℕ) → Run w b s i o e → k ≡ i → m ≡ 0 → Reached w b
+    k (textAt (e ∷ []) m)
 unfolding textAt
 end e k m r h z = here e k (textAt (e ∷ []) m) r h (ap (textAt (e ∷ [])) z)
 
 -- a number falls among the first or among those behind
-among : {w b : List ℕ} {k : ℕ} (xs ys : List Expr) (m : ℕ) → (m < length xs → Reached w b k (textAt xs m)) → (length xs ≤ m → Reached w b k (textAt ys (m - length xs))) → Reached w b k (textAt (xs ++ ys) m)
+among :
+    {w b : List ℕ} {k : ℕ} (xs ys : List Expr) (m : ℕ) →
+    (m < length xs → Reached w b k (textAt xs m)) →
+    (length xs ≤ m → Reached w b k (textAt ys (m - length xs))) → Reached w b k
+    (textAt (xs ++ ys) m)
 among {w} {b} {k} xs ys m f g = go (ltb m (length xs)) refl
   where
     go : (t : Bool) → ltb m (length xs) ≡ t → Reached w b k (textAt (xs ++ ys) m)
@@ -77,7 +85,9 @@ among {w} {b} {k} xs ys m f g = go (ltb m (length xs)) refl
     go false e = let h : length xs ≤ m = ltb-false m (length xs) e in moved refl (sym (text-right xs ys m h)) (g h)
 
 -- every node of a tree
-reach : (e : Expr) (w b : List ℕ) (s i o m k : ℕ) → Run w b s i o e → m < size e → k ≡ s + m → Reached w b k (textAt (subexpressions e) m)
+reach :
+    (e : Expr) (w b : List ℕ) (s i o m k : ℕ) → Run w b s i o e → m < size e → k ≡ s + m → Reached w
+    b k (textAt (subexpressions e) m)
 unfolding subexpressions size
 reach (literal l) w b s i o m k r h g = end (literal l) k m r (omega (arith, r .long)) (omega arith)
 reach (reference x l) w b s i o m k r h g = end (reference x l) k m r (omega (arith, r .long)) (omega arith)

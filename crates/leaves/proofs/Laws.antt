@@ -229,7 +229,9 @@ module _ (s : List ℕ) (at : ℕ) (m : Mark) (o : ℕ) (w w′ : Memory) where
 
 -- a symbol by its number
 pub symbol-is : (s : List ℕ) (at p q : ℕ) (x y : Symbol) → Stands s at p (T.symbol x) q → codeOf (T.symbol x) ≡ codeOf (T.symbol y) → Stands s at p (T.symbol y) q
-symbol-is s at p q x y g e = subst (λ (t : T.Token). Stands s at p t q) (code-same (T.symbol x) (T.symbol y) (symbol-coded y) e) g
+symbol-is s at p q x y g e =
+    subst (λ (t : T.Token). Stands s at p t q)
+    (code-same (T.symbol x) (T.symbol y) (symbol-coded y) e) g
 
 -- ---- what the lexer says, as it stands
 

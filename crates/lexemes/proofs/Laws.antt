@@ -34,7 +34,9 @@ module _ (class : ℕ → Bool) (s : List ℕ) (i : ℕ) where
 
 pub escaped-more : (s : List ℕ) (i : ℕ) → i < length s → length (escapedAll (drop i s)) ≡ length (escaped (getD s i 0)) + length (escapedAll (drop (i + 1) s))
 unfolding escapedAll
-escaped-more s i h = ap (λ (l : List ℕ). length (escapedAll l)) (drop-one s i h) ∙ length-append (escaped (getD s i 0)) (escapedAll (drop (i + 1) s))
+escaped-more s i h =
+    ap (λ (l : List ℕ). length (escapedAll l)) (drop-one s i h)
+    ∙ length-append (escaped (getD s i 0)) (escapedAll (drop (i + 1) s))
 
 pub escaped-end : (s : List ℕ) (i : ℕ) → length s ≤ i → length (escapedAll (drop i s)) ≡ 0
 unfolding escapedAll

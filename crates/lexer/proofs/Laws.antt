@@ -382,7 +382,26 @@ short-at b n x e h = rw e h
 
 pub short-none : (b : ℕ) → (b ≡ 60 → ⊥) → (b ≡ 62 → ⊥) → (b ≡ 43 → ⊥) → (b ≡ 45 → ⊥) → (b ≡ 42 → ⊥) → (b ≡ 47 → ⊥) → (b ≡ 37 → ⊥) → (b ≡ 33 → ⊥) → (b ≡ 63 → ⊥) → (b ≡ 58 → ⊥) → (b ≡ 40 → ⊥) → (b ≡ 41 → ⊥) → (b ≡ 91 → ⊥) → (b ≡ 93 → ⊥) → (b ≡ 59 → ⊥) → (b ≡ 61 → ⊥) → (b ≡ 46 → ⊥) → wrong 3 ≡ symbolIn (drop 8 spellings) (b ∷ [])
 unfolding symbolIn spellings begins bytes
-short-none b h0 h1 h2 h3 h4 h5 h6 h7 h8 h9 h10 h11 h12 h13 h14 h15 h16 = rw (ne-eqb 60 b (λ e. h0 (sym e)), ne-eqb 62 b (λ e. h1 (sym e)), ne-eqb 43 b (λ e. h2 (sym e)), ne-eqb 45 b (λ e. h3 (sym e)), ne-eqb 42 b (λ e. h4 (sym e)), ne-eqb 47 b (λ e. h5 (sym e)), ne-eqb 37 b (λ e. h6 (sym e)), ne-eqb 33 b (λ e. h7 (sym e)), ne-eqb 63 b (λ e. h8 (sym e)), ne-eqb 58 b (λ e. h9 (sym e)), ne-eqb 40 b (λ e. h10 (sym e)), ne-eqb 41 b (λ e. h11 (sym e)), ne-eqb 91 b (λ e. h12 (sym e)), ne-eqb 93 b (λ e. h13 (sym e)), ne-eqb 59 b (λ e. h14 (sym e)), ne-eqb 61 b (λ e. h15 (sym e)), ne-eqb 46 b (λ e. h16 (sym e))) refl
+short-none b h0 h1 h2 h3 h4 h5 h6 h7 h8 h9 h10 h11 h12 h13 h14 h15 h16 =
+    rw (
+      ne-eqb 60 b (λ e. h0 (sym e)),
+      ne-eqb 62 b (λ e. h1 (sym e)),
+      ne-eqb 43 b (λ e. h2 (sym e)),
+      ne-eqb 45 b (λ e. h3 (sym e)),
+      ne-eqb 42 b (λ e. h4 (sym e)),
+      ne-eqb 47 b (λ e. h5 (sym e)),
+      ne-eqb 37 b (λ e. h6 (sym e)),
+      ne-eqb 33 b (λ e. h7 (sym e)),
+      ne-eqb 63 b (λ e. h8 (sym e)),
+      ne-eqb 58 b (λ e. h9 (sym e)),
+      ne-eqb 40 b (λ e. h10 (sym e)),
+      ne-eqb 41 b (λ e. h11 (sym e)),
+      ne-eqb 91 b (λ e. h12 (sym e)),
+      ne-eqb 93 b (λ e. h13 (sym e)),
+      ne-eqb 59 b (λ e. h14 (sym e)),
+      ne-eqb 61 b (λ e. h15 (sym e)),
+      ne-eqb 46 b (λ e. h16 (sym e)),
+    ) refl
 
 -- no more than three bytes count
 three : (l : List ℕ) → symbolIn spellings l ≡ symbolIn spellings (getD l 0 0 ∷ getD l 1 0 ∷ getD l 2 0 ∷ [])
@@ -397,7 +416,9 @@ abbrev orElse : Front → Front → Front
 orElse (good t n) y = good t n
 orElse (wrong k) y = y
 
-split : (k : ℕ) (ss : List Spelling) (l : List ℕ) → symbolIn ss l ≡ orElse (symbolIn (take k ss) l) (symbolIn (drop k ss) l)
+split :
+    (k : ℕ) (ss : List Spelling) (l : List ℕ) → symbolIn ss l ≡ orElse (symbolIn (take k ss) l)
+    (symbolIn (drop k ss) l)
 unfolding symbolIn
 split zero ss l = refl
 split (suc k) [] l = refl

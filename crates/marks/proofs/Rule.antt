@@ -133,4 +133,8 @@ leave-lists {G} {x} {ta = ta} {ma} {fl} a k len ls {v = v} e q lt =
     ∙ state-eq (sym (e ∙ ap (back k) (a .from-is))) refl refl refl refl refl refl refl refl (sym w))
 
 pub grows-one : (len v : ℕ) (ls : List ℕ) → len < length ls → Grows len (len + 1) ls (set ls len v)
-grows-one len v ls h = record { longer = omega arith; fits = λ k. omega arith; behind = λ i k. getD-set-other ls len i v 0 (λ e. omega arith) }
+grows-one len v ls h = record {
+  longer = omega arith;
+  fits = λ k. omega arith;
+  behind = λ i k. getD-set-other ls len i v 0 (λ e. omega arith);
+}

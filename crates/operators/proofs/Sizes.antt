@@ -123,10 +123,12 @@ computed op (Strings s o n t p m) h = tt
 
 arithmetic-sized : (op : Arithmetic) (a b : Value) → Sized a → Sized (arithmeticValue op a b)
 arithmetic-sized op a b h =
-    subst Sized (arithmetic-by-pair op a b) (computed op (operandsOf (numberOnly a) (numberOnly b)) (dividend a (numberOnly b) h))
+    subst Sized (arithmetic-by-pair op a b)
+    (computed op (operandsOf (numberOnly a) (numberOnly b)) (dividend a (numberOnly b) h))
 
 comparison-sized : (first second : List ℕ) (op : Comparison) (a b : Value) → Sized (comparisonValue first second op a b)
-comparison-sized first second op a b = subst Sized (comparison-by-pair first second op a b) (compared first second op (operandsOf a b))
+comparison-sized first second op a b =
+    subst Sized (comparison-by-pair first second op a b) (compared first second op (operandsOf a b))
 
 -- ---- every operator
 pub binary-sized : (first second : List ℕ) (op : Binary) (a b : Value) → Sized a → Sized (binaryValue first second op a b)

@@ -30,4 +30,6 @@ orders-of v b w c {count} {len} e t = record {
 -- so many zeros
 pub cleared-all : (l : List ℕ) (i : ℕ) → i ≤ length l → length l ≤ i → replicate i 0 ++ drop i l ≡ replicate (length l) 0
 cleared-all l i h k =
-    ap (λ (u : List ℕ). replicate i 0 ++ u) (drop-of-length-le l k) ∙ append-nil (replicate i 0) ∙ ap (λ (n : ℕ). replicate n 0) (let q : i ≡ length l = omega arith in q)
+    ap (λ (u : List ℕ). replicate i 0 ++ u) (drop-of-length-le l k)
+    ∙ append-nil (replicate i 0)
+    ∙ ap (λ (n : ℕ). replicate n 0) (let q : i ≡ length l = omega arith in q)

@@ -18,8 +18,14 @@ after-more f n [] x = refl
 after-more f n (y ∷ ys) x = after-more f (f n y) ys x
 
 -- what stood after i bytes stands, by f, after one more
-next : (f : ℕ → ℕ → ℕ) (s : List ℕ) (i m : ℕ) → i < length s → m ≡ after f 0 (take i s) → f m (getD s i 0) ≡ after f 0 (take (i + 1) s)
-next f s i m h e = ap (λ (n : ℕ). f n (getD s i 0)) e ∙ sym (after-more f 0 (take i s) (getD s i 0)) ∙ ap (after f 0) (sym (take-suc s i 0 h)) ∙ ap (λ (n : ℕ). after f 0 (take n s)) (sym (add-one i))
+next :
+    (f : ℕ → ℕ → ℕ) (s : List ℕ) (i m : ℕ) → i < length s → m ≡ after f 0 (take i s) → f m
+    (getD s i 0) ≡ after f 0 (take (i + 1) s)
+next f s i m h e =
+    ap (λ (n : ℕ). f n (getD s i 0)) e
+    ∙ sym (after-more f 0 (take i s) (getD s i 0))
+    ∙ ap (after f 0) (sym (take-suc s i 0 h))
+    ∙ ap (λ (n : ℕ). after f 0 (take n s)) (sym (add-one i))
 
 line-small : (n x : ℕ) → lineAfter n x ≤ n + 1
 line-small n x = bound (eqb x 10)
@@ -54,7 +60,14 @@ pub record Reaches (s : List ℕ) (end i line column : ℕ) : Type 0 where
 
 pub start : (s : List ℕ) (place end : ℕ) → end ≡ min place (length s) → Reaches s end 0 0 0
 unfolding after
-start s place end e = record { before = omega arith; inside = rw e (min-le-right place (length s)); lines = refl; columns = refl; few-lines = omega arith; few-columns = omega arith }
+start s place end e = record {
+  before = omega arith;
+  inside = rw e (min-le-right place (length s));
+  lines = refl;
+  columns = refl;
+  few-lines = omega arith;
+  few-columns = omega arith;
+}
 
 pub more : (s : List ℕ) (end i l c l′ c′ : ℕ) → i < end → Reaches s end i l c → l′ ≡ lineAfter l (getD s i 0) → c′ ≡ columnAfter c (getD s i 0) → Reaches s end (i + 1) l′ c′
 more s end i l c l′ c′ h r e g = record {

@@ -128,7 +128,16 @@ module _ (w b : List ℕ) (j : ℕ) where
 
 -- room for the brackets
 pub opened : (w b : List ℕ) (d : ℕ) → TableFits w b 0 d 2 → TableFits w b 0 d 1
-opened w b d f = record { words = f .words; few = f .few; ad = f .ad; node = f .node; byte = f .byte; table = f .table; count = f .count; near = omega (arith, f .near) }
+opened w b d f = record {
+  words = f .words;
+  few = f .few;
+  ad = f .ad;
+  node = f .node;
+  byte = f .byte;
+  table = f .table;
+  count = f .count;
+  near = omega (arith, f .near);
+}
 
 pub closing-near : (w b : List ℕ) (d m : ℕ) (o o₁ : List ℕ) (f : TableFits w b 0 d 2) → TableWritten w b 0 d 1 o o₁ m → Near m (93 ∷ [])
 closing-near w b d m o o₁ f t = omega (arith, f .near, t (f .ad) (f .node) (f .byte) (f .table) (f .count) .behind)

@@ -24,13 +24,17 @@ use Rattle.printer.specs.Post.{bindsKind, wrapped, Fits, Written, LeafFi
 -- ---- the same by another name
 
 pub fits-as : (w b : List ℕ) (n n′ x x′ m : ℕ) → n ≡ n′ → x ≡ x′ → Fits (wrapped n′) w b x′ m → Fits (wrapped n) w b x m
-fits-as w b n n′ x x′ m e g f = subst (λ (k : ℕ). Fits (wrapped k) w b x m) (sym e) (subst (λ (k : ℕ). Fits (wrapped n′) w b k m) (sym g) f)
+fits-as w b n n′ x x′ m e g f =
+    subst (λ (k : ℕ). Fits (wrapped k) w b x m) (sym e)
+    (subst (λ (k : ℕ). Fits (wrapped n′) w b k m) (sym g) f)
 
 pub tree-fits-as : (w b : List ℕ) (x x′ m : ℕ) → x ≡ x′ → Fits printed w b x′ m → Fits printed w b x m
 tree-fits-as w b x x′ m g f = subst (λ (k : ℕ). Fits printed w b k m) (sym g) f
 
 pub written-as : (w b o o₁ : List ℕ) (n n′ x x′ at r : ℕ) → n ≡ n′ → x ≡ x′ → Written (wrapped n) w b x at o o₁ r → Written (wrapped n′) w b x′ at o o₁ r
-written-as w b o o₁ n n′ x x′ at r e g f = subst (λ (k : ℕ). Written (wrapped k) w b x′ at o o₁ r) e (subst (λ (k : ℕ). Written (wrapped n) w b k at o o₁ r) g f)
+written-as w b o o₁ n n′ x x′ at r e g f =
+    subst (λ (k : ℕ). Written (wrapped k) w b x′ at o o₁ r) e
+    (subst (λ (k : ℕ). Written (wrapped n) w b k at o o₁ r) g f)
 
 pub tree-written-as : (w b o o₁ : List ℕ) (x x′ at r : ℕ) → x ≡ x′ → Written printed w b x at o o₁ r → Written printed w b x′ at o o₁ r
 tree-written-as w b o o₁ x x′ at r g f = subst (λ (k : ℕ). Written printed w b k at o o₁ r) g f

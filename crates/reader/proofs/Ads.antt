@@ -30,13 +30,17 @@ unfolding adBytes
 bytes-more [] d = ap (_++_ (d .name)) (append-nil (exprBytes (d .expression)))
 bytes-more (x ∷ a) d = rw (bytes-more a d) (sym (append-assoc (x .name) (exprBytes (x .expression) ++ adBytes a) (d .name ++ exprBytes (d .expression)) ∙ ap (_++_ (x .name)) (append-assoc (exprBytes (x .expression)) (adBytes a) (d .name ++ exprBytes (d .expression)))))
 
-length-more : (a : Ad) (d : Definition) → length (adBytes (a ++ d ∷ [])) ≡ length (adBytes a) + length (d .name) + length (exprBytes (d .expression))
+length-more :
+    (a : Ad) (d : Definition) → length (adBytes (a ++ d ∷ [])) ≡ length (adBytes a) + length
+    (d .name) + length (exprBytes (d .expression))
 length-more a d = ap length (bytes-more a d) ∙ simp length-append (omega arith)
 
 numbers : {n n′ o o′ : ℕ} (e : Expr) → n ≡ n′ → o ≡ o′ → exprNodes n o e ≡ exprNodes n′ o′ e
 numbers e p q = λ i. exprNodes (p i) (q i) e
 
-nodes-stored : (n o : ℕ) (a : Ad) (d : Definition) → adNodes n o (a ++ d ∷ []) ≡ adNodes n o a ++ exprNodes (n + nodes a) (o + length (adBytes a) + length (d .name)) (d .expression)
+nodes-stored :
+    (n o : ℕ) (a : Ad) (d : Definition) → adNodes n o (a ++ d ∷ []) ≡ adNodes n o a ++ exprNodes
+    (n + nodes a) (o + length (adBytes a) + length (d .name)) (d .expression)
 unfolding adNodes nodes adBytes
 nodes-stored n o [] d = append-nil _ ∙ numbers (d .expression) (omega arith) (omega arith)
 nodes-stored n o (x ∷ a) d =
@@ -55,7 +59,9 @@ entry o l r = o ∷ l ∷ r ∷ []
 entries : {o o′ r r′ : ℕ} (l : ℕ) → o ≡ o′ → r ≡ r′ → entry o l r ≡ entry o′ l r′
 entries l p q = λ i. entry (p i) l (q i)
 
-definitions-stored : (n o : ℕ) (a : Ad) (d : Definition) → adDefinitions n o (a ++ d ∷ []) ≡ adDefinitions n o a ++ entry (o + length (adBytes a)) (length (d .name)) (n + nodes a + size (d .expression) - 1)
+definitions-stored :
+    (n o : ℕ) (a : Ad) (d : Definition) → adDefinitions n o (a ++ d ∷ []) ≡ adDefinitions n o a ++
+    entry (o + length (adBytes a)) (length (d .name)) (n + nodes a + size (d .expression) - 1)
 unfolding adDefinitions nodes adBytes
 definitions-stored n o [] d = entries (length (d .name)) (omega arith) (omega arith)
 definitions-stored n o (x ∷ a) d =
@@ -153,17 +159,25 @@ pub names-found : (d : ℕ) (m : Mark) (w v : Memory) (a : Ad) → Holds d m w v
 names-found d m w v a H hd hw hb name =
     let N = adNodes 0 0 a in
     let l = sets (v .words) 0 N in
-    let s₁ : w .words ≡ sets l 4096 (adDefinitions 0 0 a) = ap (λ (z : Memory). z .words) (H .memory-of) in
-    let s₂ : w .bytes ≡ sets (v .bytes) 0 (adBytes a) = ap (λ (z : Memory). z .bytes) (H .memory-of) in
+    let s₁ : w .words ≡ sets l 4096 (adDefinitions 0 0 a) = ap (λ (z : Memory). z .words)
+    (H .memory-of) in
+    let s₂ : w .bytes ≡ sets (v .bytes) 0 (adBytes a) = ap (λ (z : Memory). z .bytes)
+    (H .memory-of) in
     let lD = length-ad-definitions 0 0 a in
-    let e₁ : length (w .words) ≡ length l = ap length s₁ ∙ length-sets l 4096 (adDefinitions 0 0 a) in
-    let e₂ : length (w .bytes) ≡ length (v .bytes) = ap length s₂ ∙ length-sets (v .bytes) 0 (adBytes a) in
+    let e₁ : length (w .words) ≡ length l = ap length s₁
+    ∙ length-sets l 4096 (adDefinitions 0 0 a) in
+    let e₂ : length (w .bytes) ≡ length (v .bytes) = ap length s₂
+    ∙ length-sets (v .bytes) 0 (adBytes a) in
     let b₀ : m .bytes ≡ length (adBytes a) = ap (λ (z : Mark). z .bytes) (H .mark-of) in
     let f₁ : 4096 + length (adDefinitions 0 0 a) ≤ length l = omega (arith, H .count) in
     let f₂ : 0 + length (adBytes a) ≤ length (v .bytes) = omega arith in
     let t₁ = s₁ ∙ sets-eq (adDefinitions 0 0 a) l 4096 f₁ in
     let t₂ = s₂ ∙ sets-eq (adBytes a) (v .bytes) 0 f₂ in
     let lt : length (take 4096 l) ≡ 4096 + 3 * 0 = omega (arith, length-take 4096 l) in
-    rw (H .count) (names-in (w .words) (w .bytes) name 0 0 0 a (drop (4096 + length (adDefinitions 0 0 a)) l) (drop (0 + length (adBytes a)) (v .bytes))
-    (ap (drop (4096 + 3 * 0)) (t₁ ∙ append-assoc (take 4096 l) (adDefinitions 0 0 a) (drop (4096 + length (adDefinitions 0 0 a)) l)) ∙ drop-at (take 4096 l) (adDefinitions 0 0 a ++ drop (4096 + length (adDefinitions 0 0 a)) l) (4096 + 3 * 0) lt)
-    t₂)
+    rw (H .count) (names-in (w .words) (w .bytes) name 0 0 0 a
+    (drop (4096 + length (adDefinitions 0 0 a)) l) (drop (0 + length (adBytes a)) (v .bytes)) (ap
+    (drop (4096 + 3 * 0)) (t₁
+    ∙ append-assoc (take 4096 l) (adDefinitions 0 0 a)
+    (drop (4096 + length (adDefinitions 0 0 a)) l))
+    ∙ drop-at (take 4096 l) (adDefinitions 0 0 a ++ drop (4096 + length (adDefinitions 0 0 a)) l)
+    (4096 + 3 * 0) lt) t₂)

@@ -30,21 +30,33 @@ drop-zeros (suc k) (suc n) = let e : n - k ≡ suc n - suc k = omega arith in dr
 
 -- xs at the front of n zeros
 pad : (xs : List ℕ) (n : ℕ) → length xs ≤ n → sets (replicate n 0) 0 xs ≡ padded n xs
-pad xs n h = sets-eq xs (replicate n 0) 0 (simp (length-replicate, zero-add) h) ∙ ap (_++_ xs) (rw zero-add (drop-zeros (length xs) n))
+pad xs n h =
+    sets-eq xs (replicate n 0) 0 (simp (length-replicate, zero-add) h)
+    ∙ ap (_++_ xs) (rw zero-add (drop-zeros (length xs) n))
 
 length-padded : (xs : List ℕ) (n : ℕ) → length xs ≤ n → length (padded n xs) ≡ n
 length-padded xs n h = simp (length-append, length-replicate) (omega arith)
 
 -- xs in the first p of p + r zeros, and ys in the others
-pad-both : (xs ys : List ℕ) (p r : ℕ) → length xs ≤ p → length ys ≤ r → sets (sets (replicate (p + r) 0) 0 xs) p ys ≡ padded p xs ++ padded r ys
+pad-both :
+    (xs ys : List ℕ) (p r : ℕ) → length xs ≤ p → length ys ≤ r → sets
+    (sets (replicate (p + r) 0) 0 xs) p ys ≡ padded p xs ++ padded r ys
 pad-both xs ys p r h h′ =
     let e : p + r - length xs ≡ p - length xs + r = omega arith in
-    let a : sets (replicate (p + r) 0) 0 xs ≡ padded p xs ++ replicate r 0 = pad xs (p + r) (omega arith) ∙ (ap (_++_ xs) (zeros e ∙ sym (replicate-append-replicate (p - length xs) r 0)) ∙ sym (append-assoc xs (replicate (p - length xs) 0) (replicate r 0))) in
+    let a : sets (replicate (p + r) 0) 0 xs ≡ padded p xs ++ replicate r 0 = pad xs (p + r)
+    (omega arith)
+    ∙ (ap (_++_ xs) (zeros e ∙ sym (replicate-append-replicate (p - length xs) r 0))
+    ∙ sym (append-assoc xs (replicate (p - length xs) 0) (replicate r 0))) in
     let l = length-padded xs p h in
-    let f : p + length ys ≤ length (padded p xs ++ replicate r 0) = omega (arith, length-append (padded p xs) (replicate r 0), length-replicate {A = ℕ} r 0) in
-    let t : take p (padded p xs ++ replicate r 0) ≡ padded p xs = take-at (padded p xs) (replicate r 0) p l in
-    let d : drop (p + length ys) (padded p xs ++ replicate r 0) ≡ replicate (r - length ys) 0 = ap (λ (k : ℕ). drop (k + length ys) (padded p xs ++ replicate r 0)) (sym l) ∙ (drop-append-add (padded p xs) (replicate r 0) (length ys) ∙ drop-zeros (length ys) r) in
-    rw a (sets-eq ys (padded p xs ++ replicate r 0) p f ∙ rw (t, d) (append-assoc (padded p xs) ys (replicate (r - length ys) 0)))
+    let f : p + length ys ≤ length (padded p xs ++ replicate r 0) = omega
+    (arith, length-append (padded p xs) (replicate r 0), length-replicate {A = ℕ} r 0) in
+    let t : take p (padded p xs ++ replicate r 0) ≡ padded p xs = take-at (padded p xs)
+    (replicate r 0) p l in
+    let d : drop (p + length ys) (padded p xs ++ replicate r 0) ≡ replicate (r - length ys) 0 = ap
+    (λ (k : ℕ). drop (k + length ys) (padded p xs ++ replicate r 0)) (sym l)
+    ∙ (drop-append-add (padded p xs) (replicate r 0) (length ys) ∙ drop-zeros (length ys) r) in
+    rw a (sets-eq ys (padded p xs ++ replicate r 0) p f
+    ∙ rw (t, d) (append-assoc (padded p xs) ys (replicate (r - length ys) 0)))
 
 module _ (s w₀ b₀ w′ b′ : List ℕ) (hw : w₀ ≡ replicate 4864 0) (hb : b₀ ≡ replicate 16384 0) where
   -- accepted over cleared memory
@@ -66,7 +78,11 @@ module _ (s w₀ b₀ w′ b′ : List ℕ) (hw : w₀ ≡ replicate 4864 0) (hb
 
 -- refused, and cleared again
 pub into-none : (s w b w′ b′ : List ℕ) (k p : ℕ) (r : Answer) → parse s ≡ R.denied k p → Cleared w b w′ b′ k p r → length w ≡ 4864 → length b ≡ 16384 → Left (parse s) w′ b′ r
-into-none s w b w′ b′ k p r e h hw hb = record { answers = rw e (h .answers); words = rw e (h .words ∙ zeros hw); bytes = rw e (h .bytes ∙ zeros hb) }
+into-none s w b w′ b′ k p r e h hw hb = record {
+  answers = rw e (h .answers);
+  words = rw e (h .words ∙ zeros hw);
+  bytes = rw e (h .bytes ∙ zeros hb);
+}
 
 module _ (s w b : List ℕ) where
   pub small-words : length w < 4864 → Answered s w b w b (Refused 1 0)

@@ -18,8 +18,12 @@ use lib.Ieee.Positive.{first-pos}
 -- nx / c and ny / d are the fractions a / dx and b / dy, crosswise
 cross : (nx dx ny dy a b c d : ℕ) → nx * c ≡ a * dx → ny * d ≡ b * dy → nx * dy * (b * c) ≡ a * d * (ny * dx)
 cross nx dx ny dy a b c d h k =
-    ap (λ (z : ℕ). nx * dy * z) (mul-comm b c) ∙ mul-mul-mul-comm nx dy c b ∙ ap₂ _*_ h (mul-comm dy b ∙ sym k)
-    ∙ ap (λ (z : ℕ). a * dx * z) (mul-comm ny d) ∙ mul-mul-mul-comm a dx d ny ∙ ap (λ (z : ℕ). a * d * z) (mul-comm dx ny)
+    ap (λ (z : ℕ). nx * dy * z) (mul-comm b c)
+    ∙ mul-mul-mul-comm nx dy c b
+    ∙ ap₂ _*_ h (mul-comm dy b ∙ sym k)
+    ∙ ap (λ (z : ℕ). a * dx * z) (mul-comm ny d)
+    ∙ mul-mul-mul-comm a dx d ny
+    ∙ ap (λ (z : ℕ). a * d * z) (mul-comm dx ny)
 
 pub div-at : (f : Format) (x y : Float) (a c b d : ℕ) → 0 < c → 0 < d → 0 < b → HasValue x false a c → HasValue y false b d → div f x y ≡ round f false (a * d) (b * c)
 unfolding div
@@ -39,7 +43,8 @@ div-at f (fin false m e) (fin false n g) a c b d C D B h k =
 pub whole-quotient : (f : Format) (a b : ℕ) → a ≤ 2 ^ prec f → b ≤ 2 ^ prec f → 0 < b → div f (ofInt f (pos a)) (ofInt f (pos b)) ≡ round f false a b
 unfolding ofInt
 whole-quotient f a b ha hb B =
-    div-at f (round f false a 1) (round f false b 1) a 1 b 1 (lit< tt) (lit< tt) B (round-whole f false a ha) (round-whole f false b hb)
+    div-at f (round f false a 1) (round f false b 1) a 1 b 1 (lit< tt) (lit< tt) B
+    (round-whole f false a ha) (round-whole f false b hb)
     ∙ ap₂ (round f false) (mul-one a) (mul-one b)
 
 neg-odd : (d : ℕ) (s : Bool) (q k l : ℕ) → neg (odd d s q k l) ≡ odd d (not s) q k l
@@ -54,7 +59,9 @@ neg-pick false s x y e = refl
 
 neg-units : (f : Format) (s : Bool) (q k : ℕ) → neg (units f s q k) ≡ units f (not s) q k
 unfolding units
-neg-units f s q k = neg-pick (ltb (q * 2 ^ k) (2 ^ (low f + suc (emax f)))) s (odd (suc (prec f)) s q k (low f)) (odd (suc (prec f)) (not s) q k (low f)) (neg-odd (suc (prec f)) s q k (low f))
+neg-units f s q k =
+    neg-pick (ltb (q * 2 ^ k) (2 ^ (low f + suc (emax f)))) s (odd (suc (prec f)) s q k (low f))
+    (odd (suc (prec f)) (not s) q k (low f)) (neg-odd (suc (prec f)) s q k (low f))
 
 pub neg-round : (f : Format) (s : Bool) (a b : ℕ) → neg (round f s a b) ≡ round f (not s) a b
 unfolding round

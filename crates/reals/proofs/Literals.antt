@@ -14,4 +14,5 @@ stored-literal digits places h k = rw (lt-ltb digits (10 ^ 15) h, lt-ltb places 
 
 pub stored-fits : (digits places : ℕ) → T (fits binary64 (storedReal digits places))
 stored-fits digits places =
-    cond-fits binary64 (inRange digits places) (literalReal digits places) (ofInt binary64 (pos 0)) (round-fits binary64 false digits (10 ^ places)) (ofInt-fits binary64 (pos 0))
+    cond-fits binary64 (inRange digits places) (literalReal digits places) (ofInt binary64 (pos 0))
+    (round-fits binary64 false digits (10 ^ places)) (ofInt-fits binary64 (pos 0))

@@ -21,7 +21,9 @@ use Rattle.slots.specs.Packed.{kindOf, placeWord, loadOf, kindWord, load
 -- ---- a value's two words
 side-back : (side : Bool) (o n : ℕ) → o < 2 ^ 16 → n < 2 ^ 16 → not (eqb (placeWord side o n / 2 ^ 32) 0) ≡ side
 side-back true o n h k = ap not (ne-eqb (placeWord true o n / 2 ^ 32) 0 (λ e. omega arith))
-side-back false o n h k = ap not (eq-eqb (placeWord false o n / 2 ^ 32) 0 (let z : placeWord false o n / 2 ^ 32 ≡ 0 = omega arith in z))
+side-back false o n h k =
+    ap not (eq-eqb (placeWord false o n / 2 ^ 32) 0
+    (let z : placeWord false o n / 2 ^ 32 ≡ 0 = omega arith in z))
 
 offset-back : (side : Bool) (o n : ℕ) → o < 2 ^ 16 → n < 2 ^ 16 → placeWord side o n / 2 ^ 16 % 2 ^ 16 ≡ o
 offset-back true o n h k = omega arith

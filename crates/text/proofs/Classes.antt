@@ -9,7 +9,10 @@ use Rattle.text.specs.Bytes.{isBlank, isDigit, isLetter, startsName, con
 
 pub small-letter : (b : ℕ) → 97 ≤ b → leb b 122 ≡ isLetter b
 unfolding isLetter
-small-letter b h = let low : 65 ≤ b = omega arith in let high : 90 < b = omega arith in rw (le-leb 65 b low, lt-leb b 90 high, le-leb 97 b h) refl
+small-letter b h =
+    let low : 65 ≤ b = omega arith in
+    let high : 90 < b = omega arith in
+    rw (le-leb 65 b low, lt-leb b 90 high, le-leb 97 b h) refl
 
 pub capital-letter : (b : ℕ) → b < 97 → 65 ≤ b → leb b 90 ≡ isLetter b
 unfolding isLetter

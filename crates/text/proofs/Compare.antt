@@ -68,7 +68,9 @@ module _ (s t : List ℕ) (i x y : ℕ) (e : length s ≡ length t) (p : x ≡ l
       (lowered-at s i ∙ sym p ∙ z ∙ q ∙ sym (lowered-at t i))
 
 pub names-finished : (s t : List ℕ) (i : ℕ) → length s ≡ length t → length s ≤ i → sameBytes (drop i (lowered s)) (drop i (lowered t)) ≡ true
-names-finished s t i e h = finished (lowered s) (lowered t) i (lowered-length s ∙ e ∙ sym (lowered-length t)) (rw (lowered-length s) h)
+names-finished s t i e h =
+    finished (lowered s) (lowered t) i (lowered-length s ∙ e ∙ sym (lowered-length t))
+    (rw (lowered-length s) h)
 
 -- ---- the order
 pick : ℕ → ℕ → Order → Order

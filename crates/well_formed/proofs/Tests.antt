@@ -31,7 +31,10 @@ follows-not x i h = sym (ne-eqb (x + 1) i (λ e. omega arith))
 
 pub places-few : (x y : ℕ) → isReal x y ≡ true → y ≤ 14
 unfolding isReal
-places-few x y e = let h = ltb-true y 15 (and-right (leb 1 y) (ltb y 15) (and-right (ltb x (10 ^ 15)) (leb 1 y && ltb y 15) e)) in omega arith
+places-few x y e =
+    let h = ltb-true y 15 (and-right (leb 1 y) (ltb y 15)
+    (and-right (ltb x (10 ^ 15)) (leb 1 y && ltb y 15) e)) in
+    omega arith
 
 pub string-room : (l : List ℕ) → isString l ≡ true → length l ≤ 1024
 unfolding isString
@@ -52,7 +55,9 @@ module _ (b : List ℕ) (o x y : ℕ) (t : Bool) (e : (standsAt b o x y && t) �
 
 -- ---- leaves
 
-same-if : (o : ℕ) (t : Bool) (go : Unit {0} → Found) (v : Walk) (r : Walk) → r ≡ walkIf t v → (t ≡ true → Same o (go tt) v) → Same o (test t go) r
+same-if :
+    (o : ℕ) (t : Bool) (go : Unit {0} → Found) (v : Walk) (r : Walk) → r ≡ walkIf t v →
+    (t ≡ true → Same o (go tt) v) → Same o (test t go) r
 same-if o true go v r e f = subst (Same o (go tt)) (sym e) (f refl)
 same-if o false go v r e f = subst (Same o bad) (sym e) refl
 

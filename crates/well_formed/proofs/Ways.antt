@@ -30,7 +30,8 @@ pub found-run : (w b : List ℕ) (s i o p c d n : ℕ) → Room w b s i o → Wa
     (e : Expr) × Run w b s i o e × (p ≡ o + length (exprBytes e)) × (c ≡ binds e) × (d ≡ levelOf e) × (n ≡ length (printed e)) × (treeAt (suc i) w b s i o ≡ got e)
 found-run w b s i o p c d n r h =
     let x = h (suc i) (omega arith) in
-    let y : All (Run w b s i o) (got (x .0)) = rw (x .1) at (tree-sound (suc i) w b s i o (omega (arith, r .node, r .words))) in
+    let y : All (Run w b s i o) (got (x .0)) = rw (x .1) at
+    (tree-sound (suc i) w b s i o (omega (arith, r .node, r .words))) in
     (x .0, y, x .2, x .3, x .4, x .5, x .1)
 
 pub walk-small : (w b : List ℕ) (s i o p c d n : ℕ) → Room w b s i o → WalkOk w b s i o (Tree p c d n) → (p ≤ 16384) × (d < 100000) × (n < 100000) × (o ≤ p)

@@ -65,17 +65,28 @@ module _ {o o₁ o₂ : List ℕ} {at m : ℕ} (v : ℕ) where
 
 -- the shorter number before the last digit is near too
 pub near-decimal : (v at : ℕ) → 10 ≤ v → Near at (decimal v) → Near at (decimal (v / 10))
-near-decimal v at h n = omega (arith, ap length (decimal-more v h), length-append (decimal (v / 10)) ((code "0" + v % 10) ∷ []))
+near-decimal v at h n =
+    omega (
+      arith,
+      ap length (decimal-more v h),
+      length-append (decimal (v / 10)) ((code "0" + v % 10) ∷ []),
+    )
 
 pub near-decimal-last : (v at m : ℕ) → 10 ≤ v → Near at (decimal v) → m ≡ at + length (decimal (v / 10)) → m < 1000000
-near-decimal-last v at m h n e = omega (arith, ap length (decimal-more v h), length-append (decimal (v / 10)) ((code "0" + v % 10) ∷ []))
+near-decimal-last v at m h n e =
+    omega (
+      arith,
+      ap length (decimal-more v h),
+      length-append (decimal (v / 10)) ((code "0" + v % 10) ∷ []),
+    )
 
 pub near-one : (v at : ℕ) → v < 10 → Near at (decimal v) → at < 1000000
 near-one v at h n = omega (arith, ap length (decimal-one v h))
 
 pub near-whole : (v p at m : ℕ) → p ≡ 0 → Near at (literalText (real v p)) → Near at (decimal v) × (m ≡ at + length (decimal v) → m < 1000000)
 near-whole v p at m e n =
-    let l = ap length (ap (λ (k : ℕ). literalText (real v k)) e ∙ real-none v) ∙ length-append (decimal v) (code "." ∷ []) in
+    let l = ap length (ap (λ (k : ℕ). literalText (real v k)) e ∙ real-none v)
+    ∙ length-append (decimal v) (code "." ∷ []) in
     (omega arith, λ g. omega arith)
 
 pub near-real : (v p at m : ℕ) → (p ≡ 0 → ⊥) → Near at (literalText (real v p)) → Near at (literalText (real (v / 10) (p - 1))) × (m ≡ at + length (literalText (real (v / 10) (p - 1))) → m < 1000000)
@@ -90,7 +101,9 @@ near-real v (suc p) at m e n =
 
 pub escaped-step : (s o o₁ : List ℕ) (i m r : ℕ) → i < length s → Puts (escaped (getD s i 0)) o m o₁ r → sets o₁ r (escapedAll (drop (i + 1) s)) ≡ sets o m (escapedAll (drop i s))
 unfolding escapedAll
-escaped-step s o o₁ i m r h x = rw (drop-one s i h, x .behind, x .written) (sym (sets-append (escaped (getD s i 0)) (escapedAll (drop (i + 1) s)) o m))
+escaped-step s o o₁ i m r h x =
+    rw (drop-one s i h, x .behind, x .written)
+    (sym (sets-append (escaped (getD s i 0)) (escapedAll (drop (i + 1) s)) o m))
 
 pub string-puts : (s o o₁ o₂ o₃ : List ℕ) (at i m : ℕ) → o₁ ≡ set o at 34 → length s ≤ i → sets o₂ m (escapedAll (drop i s)) ≡ sets o₁ (at + 1) (escapedAll s) → m + length (escapedAll (drop i s)) ≡ at + 1 + length (escapedAll s) → o₃ ≡ set o₂ m 34 → Puts (literalText (string s)) o at o₃ (m + 1)
 unfolding literalText escapedAll

@@ -65,9 +65,27 @@ returns-14 c = rw (c .match .keys14)
 
 returns-15 : tie.Need-returns-15
 unfolding binaryOf
-returns-15 c = let n = c .match .rest in let k = c .before .args .kind in rw (ne-eqb k 13 (n .0 .0 .0 .0 .0 .0 .0 .0 .0 .0 .0 .0 .0 .1), ne-eqb k 14 (n .0 .0 .0 .0 .0 .0 .0 .0 .0 .0 .0 .0 .1), ne-eqb k 15 (n .0 .0 .0 .0 .0 .0 .0 .0 .0 .0 .0 .1), ne-eqb k 16 (n .0 .0 .0 .0 .0 .0 .0 .0 .0 .0 .1), ne-eqb k 17 (n .0 .0 .0 .0 .0 .0 .0 .0 .0 .1), ne-eqb k 18 (n .0 .0 .0 .0 .0 .0 .0 .0 .1), ne-eqb k 19 (n .0 .0 .0 .0 .0 .0 .0 .1), ne-eqb k 20 (n .0 .0 .0 .0 .0 .0 .1), ne-eqb k 21 (n .0 .0 .0 .0 .0 .1), ne-eqb k 22 (n .0 .0 .0 .0 .1), ne-eqb k 23 (n .0 .0 .0 .1), ne-eqb k 24 (n .0 .0 .1), ne-eqb k 25 (n .0 .1), ne-eqb k 26 (n .1))
+returns-15 c =
+    let n = c .match .rest in
+    let k = c .before .args .kind in
+    rw (
+      ne-eqb k 13 (n .0 .0 .0 .0 .0 .0 .0 .0 .0 .0 .0 .0 .0 .1),
+      ne-eqb k 14 (n .0 .0 .0 .0 .0 .0 .0 .0 .0 .0 .0 .0 .1),
+      ne-eqb k 15 (n .0 .0 .0 .0 .0 .0 .0 .0 .0 .0 .0 .1),
+      ne-eqb k 16 (n .0 .0 .0 .0 .0 .0 .0 .0 .0 .0 .1),
+      ne-eqb k 17 (n .0 .0 .0 .0 .0 .0 .0 .0 .0 .1),
+      ne-eqb k 18 (n .0 .0 .0 .0 .0 .0 .0 .0 .1),
+      ne-eqb k 19 (n .0 .0 .0 .0 .0 .0 .0 .1),
+      ne-eqb k 20 (n .0 .0 .0 .0 .0 .0 .1),
+      ne-eqb k 21 (n .0 .0 .0 .0 .0 .1),
+      ne-eqb k 22 (n .0 .0 .0 .0 .1),
+      ne-eqb k 23 (n .0 .0 .0 .1),
+      ne-eqb k 24 (n .0 .0 .1),
+      ne-eqb k 25 (n .0 .1),
+      ne-eqb k 26 (n .1),
+    )
 
 pub binary-of-spec : {M : Type 1} → statement M
-binary-of-spec = tie.close (tie.spec
-    returns returns-2 returns-3 returns-4 returns-5 returns-6 returns-7 returns-8 returns-9 returns-10 returns-11 returns-12 returns-13 returns-14
-    returns-15)
+binary-of-spec =
+    tie.close (tie.spec returns returns-2 returns-3 returns-4 returns-5 returns-6 returns-7
+    returns-8 returns-9 returns-10 returns-11 returns-12 returns-13 returns-14 returns-15)

@@ -12,7 +12,8 @@ use Rattle.ad.proofs.clear_bytes.Reads as reads
 use Rattle.ad.proofs.clear_bytes.Lts as lts
 
 abbrev Inv-loop : tie.InvT-loop
-Inv-loop bytes₀ i₀ bytes i = (i ≤ length bytes₀) × (length bytes ≡ length bytes₀) × (bytes ≡ replicate i 0 ++ drop i bytes₀)
+Inv-loop bytes₀ i₀ bytes i =
+    (i ≤ length bytes₀) × (length bytes ≡ length bytes₀) × (bytes ≡ replicate i 0 ++ drop i bytes₀)
 
 abbrev μ-loop : tie.MeasureT-loop
 μ-loop bytes₀ i₀ bytes i = length bytes₀ - i
@@ -24,10 +25,18 @@ loop-less : tie.Need-loop-less Inv-loop μ-loop
 loop-less c = omega arith
 
 loop-again : tie.Need-loop-again Inv-loop μ-loop
-loop-again c = let l = c .before .loop in let h : l .i < length (c .before .before .args .bytes .now) = omega arith in (omega arith, simp length-set (l .inv .1), rw (l .inv .2) (fill-more (l .i) 0 (c .before .before .args .bytes .now) h))
+loop-again c =
+    let l = c .before .loop in
+    let h : l .i < length (c .before .before .args .bytes .now) = omega arith in (
+      omega arith,
+      simp length-set (l .inv .1),
+      rw (l .inv .2) (fill-more (l .i) 0 (c .before .before .args .bytes .now) h),
+    )
 
 returns : tie.Need-returns Inv-loop μ-loop
-returns c = let l = c .before .loop in l .inv .2 ∙ cleared (c .before .before .args .bytes .now) (l .i) (omega arith) (omega arith)
+returns c =
+    let l = c .before .loop in
+    l .inv .2 ∙ cleared (c .before .before .args .bytes .now) (l .i) (omega arith) (omega arith)
 
 pub clear-bytes-spec : {M : Type 1} → statement M
 clear-bytes-spec = tie.close (tie.spec

@@ -20,16 +20,34 @@ loop-holds : tie.Need-loop-holds Inv-loop μ-loop
 loop-holds c = (omega arith, look-all _ _ _ _)
 
 returns : tie.Need-returns Inv-loop μ-loop
-returns c = look-found (c .before .before .before .before .before .before .before .args .words .now) (c .before .before .before .before .before .before .before .args .bytes .now) (c .before .before .before .before .before .before .before .args .name .now) (c .before .before .before .loop .j) (c .before .before .before .before .before .before .before .args .d) (omega arith) (sym (c .before .has-name .ensures) ∙ c .if1 .taken) ∙ c .before .before .before .loop .inv .1
+returns c =
+    let b3 = c .before .before .before in
+    let start = b3 .before .before .before .before in
+    let args = start .args in
+    look-found (args .words .now) (args .bytes .now) (args .name .now) (b3 .loop .j) (args .d)
+    (omega arith) (sym (c .before .has-name .ensures) ∙ c .if1 .taken)
+    ∙ b3 .loop .inv .1
 
 loop-less : tie.Need-loop-less Inv-loop μ-loop
 loop-less c = omega arith
 
 loop-again : tie.Need-loop-again Inv-loop μ-loop
-loop-again c = (omega arith, sym (look-more (c .before .before .before .before .before .before .before .args .words .now) (c .before .before .before .before .before .before .before .args .bytes .now) (c .before .before .before .before .before .before .before .args .name .now) (c .before .before .before .loop .j) (c .before .before .before .before .before .before .before .args .d) (omega arith) (sym (c .before .has-name .ensures) ∙ c .if1 .left)) ∙ c .before .before .before .loop .inv .1)
+loop-again c =
+    let b3 = c .before .before .before in
+    let start = b3 .before .before .before .before in
+    let args = start .args in (
+      omega arith,
+      sym (look-more (args .words .now) (args .bytes .now) (args .name .now) (b3 .loop .j) (args .d)
+          (omega arith) (sym (c .before .has-name .ensures) ∙ c .if1 .left))
+          ∙ b3 .loop .inv .1,
+    )
 
 returns-2 : tie.Need-returns-2 Inv-loop μ-loop
-returns-2 c = look-end (c .before .before .before .before .before .args .words .now) (c .before .before .before .before .before .args .bytes .now) (c .before .before .before .before .before .args .name .now) (c .before .loop .j) (c .before .before .before .before .before .args .d) (omega arith) ∙ c .before .loop .inv .1
+returns-2 c =
+    let args = c .before .before .before .before .before .args in
+    look-end (args .words .now) (args .bytes .now) (args .name .now) (c .before .loop .j) (args .d)
+    (omega arith)
+    ∙ c .before .loop .inv .1
 
 pub defined-spec : {M : Type 1} → statement M
 defined-spec = tie.close (tie.spec

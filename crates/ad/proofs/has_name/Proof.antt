@@ -9,7 +9,12 @@ use Rattle.ad.proofs.part.Reads as part-reads
 use Rattle.text.proofs.same_name.Reads as same-name-reads
 
 returns : tie.Need-returns
-returns c = rw (← c .before .before .before .offset .ensures, ← c .before .before .name-length .ensures, ← c .before .part .ensures) (c .same-name .ensures)
+returns c =
+    rw (
+      ← c .before .before .before .offset .ensures,
+      ← c .before .before .name-length .ensures,
+      ← c .before .part .ensures,
+    ) (c .same-name .ensures)
 
 pub has-name-spec : {M : Type 1} → statement M
 has-name-spec = tie.close (tie.spec

@@ -17,6 +17,7 @@ returns : tie.Need-returns
 returns c = simp towards-suc
 
 pub store-definition-spec : {M : Type 1} → statement M
-store-definition-spec = tie.close (tie.spec
-    (λ c. search needs) (λ c. search needs) (λ c. search needs) (λ c. search needs) (λ c. search needs) (λ c. search needs) slice-write-words-2
+store-definition-spec =
+    tie.close (tie.spec (λ c. search needs) (λ c. search needs) (λ c. search needs)
+    (λ c. search needs) (λ c. search needs) (λ c. search needs) slice-write-words-2
     (λ c. search needs) (λ c. search needs) slice-write-words-3 (λ c. search needs) returns)

@@ -20,6 +20,8 @@ returns : tie.Need-returns
 returns c = simp towards-suc
 
 pub store-node-spec : {M : Type 1} → statement M
-store-node-spec = tie.close (tie.spec
-    (λ c. search needs) (λ c. search needs) (λ c. search needs) (λ c. search needs) (λ c. search needs) slice-write-words-2 (λ c. search needs)
-    (λ c. search needs) slice-write-words-3 (λ c. search needs) (λ c. search needs) slice-write-words-4 (λ c. search needs) returns)
+store-node-spec =
+    tie.close (tie.spec (λ c. search needs) (λ c. search needs) (λ c. search needs)
+    (λ c. search needs) (λ c. search needs) slice-write-words-2 (λ c. search needs)
+    (λ c. search needs) slice-write-words-3 (λ c. search needs) (λ c. search needs)
+    slice-write-words-4 (λ c. search needs) returns)

@@ -22,13 +22,18 @@ returns-5 : tie.Need-returns-5
 returns-5 c = rw (c .before .enum-told3 .given .1) (ap Integer (c .product .ensures))
 
 returns-6 : tie.Need-returns-6
-returns-6 c = rw (c .before .before .enum-told4 .given .1, ne-eqb _ 0 (c .before .if1 .left)) (ap Integer (c .quotient .ensures))
+returns-6 c =
+    rw (c .before .before .enum-told4 .given .1, ne-eqb _ 0 (c .before .if1 .left))
+    (ap Integer (c .quotient .ensures))
 
 returns-7 : tie.Need-returns-7
-returns-7 c = rw (c .before .before .enum-told5 .given .1, ne-eqb _ 0 (c .before .if2 .left)) (ap Integer (c .remainder .ensures))
+returns-7 c =
+    rw (c .before .before .enum-told5 .given .1, ne-eqb _ 0 (c .before .if2 .left))
+    (ap Integer (c .remainder .ensures))
 
 pub of-integers-spec : {M : Type 1} → statement M
-of-integers-spec = tie.close (tie.spec
-    (λ c. search needs) (λ c κs. search needs) (λ c. search needs) (λ c κs. search needs) (λ c. search needs)
-    (λ c κs. search needs) (λ c. search needs) returns (λ c κs. search needs) (λ c. search needs) returns-2 (λ c κs. search needs)
-    returns-3 returns-4 returns-5 returns-6 returns-7)
+of-integers-spec =
+    tie.close (tie.spec (λ c. search needs) (λ c κs. search needs) (λ c. search needs)
+    (λ c κs. search needs) (λ c. search needs) (λ c κs. search needs) (λ c. search needs) returns
+    (λ c κs. search needs) (λ c. search needs) returns-2 (λ c κs. search needs) returns-3 returns-4
+    returns-5 returns-6 returns-7)

@@ -10,6 +10,7 @@ returns-5 : tie.Need-returns-5
 returns-5 c = rw (c .before .v2 .given .1)
 
 pub plus-spec : {M : Type 1} → statement M
-plus-spec = tie.close (tie.spec
-    (λ c. search needs) (λ c. search needs) (λ c. search needs) (λ c. search needs) (λ c. search needs) (λ c. search needs)
-    (λ c. search needs) (λ c. search needs) (λ c. search needs) returns-4 returns-5 (λ c. search needs))
+plus-spec =
+    tie.close (tie.spec (λ c. search needs) (λ c. search needs) (λ c. search needs)
+    (λ c. search needs) (λ c. search needs) (λ c. search needs) (λ c. search needs)
+    (λ c. search needs) (λ c. search needs) returns-4 returns-5 (λ c. search needs))

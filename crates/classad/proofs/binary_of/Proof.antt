@@ -50,7 +50,8 @@ returns-15 c = rw (c .match .keys15)
 
 returns-16 : tie.Need-returns-16
 returns-16 c =
-    let n = c .match .rest in let k = c .before .args .kind in
+    let n = c .match .rest in
+    let k = c .before .args .kind in
     rw (
       ne-eqb k 13 (n .0 .0 .0 .0 .0 .0 .0 .0 .0 .0 .0 .0 .0 .0 .1),
       ne-eqb k 14 (n .0 .0 .0 .0 .0 .0 .0 .0 .0 .0 .0 .0 .0 .1),
@@ -70,6 +71,7 @@ returns-16 c =
     )
 
 pub binary-of-spec : {M : Type 1} → statement M
-binary-of-spec = tie.close (tie.spec
-    returns returns-2 returns-3 returns-4 returns-5 returns-6 returns-7 returns-8 returns-9 returns-10 returns-11 returns-12
-    returns-13 returns-14 returns-15 returns-16)
+binary-of-spec =
+    tie.close (tie.spec returns returns-2 returns-3 returns-4 returns-5 returns-6 returns-7
+    returns-8 returns-9 returns-10 returns-11 returns-12 returns-13 returns-14 returns-15
+    returns-16)

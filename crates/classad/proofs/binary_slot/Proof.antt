@@ -17,7 +17,8 @@ returns-4 : tie.Need-returns-4
 returns-4 c =
     let at-b = c .before .before in
     let at-a = at-b .before .before .before in
-    rw (at-a .before .before .before .op .given .1, at-a .a .given .1, at-b .b .given .1) (ap Held (c .binary .ensures))
+    rw (at-a .before .before .before .op .given .1, at-a .a .given .1, at-b .b .given .1)
+    (ap Held (c .binary .ensures))
 
 pub binary-slot-spec : {M : Type 1} → statement M
 binary-slot-spec = tie.close (tie.spec

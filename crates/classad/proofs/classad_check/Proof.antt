@@ -6,13 +6,22 @@ use Rattle.classad.proofs.classad_check.Statement.{statement}
 use Rattle.classad.proofs.classad_check.Tie as tie
 
 returns : tie.Need-returns
-returns c = small-words (now (c .before .before .before .before .args .words)) (now (c .before .before .before .before .args .bytes)) (c .before .if1 .taken) refl
+returns c =
+    let args = c .before .before .before .before .args in
+    small-words (now (args .words)) (now (args .bytes)) (c .before .if1 .taken) refl
 
 returns-2 : tie.Need-returns-2
-returns-2 c = small-bytes (now (c .before .before .before .before .before .args .words)) (now (c .before .before .before .before .before .args .bytes)) (c .before .before .if1 .left) (c .before .if2 .taken) refl
+returns-2 c =
+    let args = c .before .before .before .before .before .args in
+    small-bytes (now (args .words)) (now (args .bytes)) (c .before .before .if1 .left)
+    (c .before .if2 .taken) refl
 
 returns-3 : tie.Need-returns-3
-returns-3 c = checked (now (c .before .before .before .before .before .before .args .words)) (now (c .before .before .before .before .before .before .args .bytes)) (c .before .check .result) (c .before .before .before .if1 .left) (c .before .before .if2 .left) (c .before .check .ensures) (c .check-numbers .ensures)
+returns-3 c =
+    let b2 = c .before .before in
+    let args = b2 .before .before .before .before .args in
+    checked (now (args .words)) (now (args .bytes)) (c .before .check .result)
+    (b2 .before .if1 .left) (b2 .if2 .left) (c .before .check .ensures) (c .check-numbers .ensures)
 
 pub classad-check-spec : {M : Type 1} → statement M
 classad-check-spec = tie.close (tie.spec

@@ -12,7 +12,8 @@ returns c =
     let stored = c .before .before in
     let made = stored .before in
     let loaded = made .before .before in
-    let same = ap₃ conditionalSlot (loaded .before .before .load .ensures) (loaded .before .load2 .ensures) (loaded .load3 .ensures) in
+    let same = ap₃ conditionalSlot (loaded .before .before .load .ensures)
+    (loaded .before .load2 .ensures) (loaded .load3 .ensures) in
     subst (Stored _ _ 0) (made .conditional-slot .ensures ∙ same) (stored .store .ensures)
 
 pub classad-conditional-spec : {M : Type 1} → statement M

@@ -6,7 +6,12 @@ use Rattle.classad.proofs.classad_string.Statement.{statement}
 use Rattle.classad.proofs.classad_string.Tie as tie
 
 returns : tie.Need-returns
-returns c = placed (c .before .before .before .before .before .before .args .first .now) (c .before .before .before .before .before .before .args .second .now) _ (c .before .before .before .before .before .before .args .offset) (c .before .before .before .before .before .before .args .length) (c .before .before .before .side-length .result) (c .before .before .least .result) _ _ (c .before .before .before .side-length .ensures) (c .before .before .least .ensures) (c .before .string-bytes .ensures) refl
+returns c =
+    let b2 = c .before .before in
+    let args = b2 .before .before .before .before .args in
+    placed (args .first .now) (args .second .now) _ (args .offset) (args .length)
+    (b2 .before .side-length .result) (b2 .least .result) _ _ (b2 .before .side-length .ensures)
+    (b2 .least .ensures) (c .before .string-bytes .ensures) refl
 
 pub classad-string-spec : {M : Type 1} → statement M
 classad-string-spec = tie.close (tie.spec

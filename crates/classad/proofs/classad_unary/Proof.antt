@@ -15,5 +15,6 @@ returns c =
     subst (Stored _ _ 0) (made .unary-slot .ensures ∙ same) (stored .store .ensures)
 
 pub classad-unary-spec : {M : Type 1} → statement M
-classad-unary-spec = tie.close (tie.spec
-    (λ c κs. search needs) (λ c κs. search needs) (λ c κs. search needs) (λ c κs. search needs) (λ c. search needs) returns)
+classad-unary-spec =
+    tie.close (tie.spec (λ c κs. search needs) (λ c κs. search needs) (λ c κs. search needs)
+    (λ c κs. search needs) (λ c. search needs) returns)

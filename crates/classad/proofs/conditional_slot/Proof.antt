@@ -9,9 +9,11 @@ returns-4 : tie.Need-returns-4
 returns-4 c =
     let at-b = c .before .before in
     let at-a = at-b .before .before .before in
-    rw (at-a .before .before .before .p .given .1, at-a .a .given .1, at-b .b .given .1) (ap Held (c .conditional .ensures))
+    rw (at-a .before .before .before .p .given .1, at-a .a .given .1, at-b .b .given .1)
+    (ap Held (c .conditional .ensures))
 
 pub conditional-slot-spec : {M : Type 1} → statement M
-conditional-slot-spec = tie.close (tie.spec
-    (λ c. search needs) (λ c. search needs) (λ c. search needs) (λ c. search needs) (λ c. search needs) (λ c. search needs)
-    (λ c. search needs) (λ c. search needs) (λ c. search needs) (λ c κs. search needs) returns-4)
+conditional-slot-spec =
+    tie.close (tie.spec (λ c. search needs) (λ c. search needs) (λ c. search needs)
+    (λ c. search needs) (λ c. search needs) (λ c. search needs) (λ c. search needs)
+    (λ c. search needs) (λ c. search needs) (λ c κs. search needs) returns-4)

@@ -15,6 +15,7 @@ returns-3 : tie.Need-returns-3
 returns-3 c = rw (c .before .outcome3 .given .1)
 
 pub outcome-numbers-spec : {M : Type 1} → statement M
-outcome-numbers-spec = tie.close (tie.spec
-    (λ c. search needs) (λ c. search needs) (λ c. search needs) (λ c κs. search needs) (λ c. search needs) (λ c. search needs) (λ c. search needs)
-    returns returns-2 returns-3)
+outcome-numbers-spec =
+    tie.close (tie.spec (λ c. search needs) (λ c. search needs) (λ c. search needs)
+    (λ c κs. search needs) (λ c. search needs) (λ c. search needs) (λ c. search needs) returns
+    returns-2 returns-3)

@@ -14,7 +14,8 @@ returns-3 c = rw (c .match .keys3)
 
 returns-4 : tie.Need-returns-4
 returns-4 c =
-    let n = c .match .rest in let k = c .before .args .kind in
+    let n = c .match .rest in
+    let k = c .before .args .kind in
     rw (ne-eqb k 9 (n .0 .0 .1), ne-eqb k 10 (n .0 .1), ne-eqb k 11 (n .1))
 
 pub unary-of-spec : {M : Type 1} → statement M

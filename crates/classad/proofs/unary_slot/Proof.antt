@@ -11,6 +11,6 @@ returns-3 c =
     rw (at-a .before .before .before .op .given .1, at-a .a .given .1) (ap Held (c .unary .ensures))
 
 pub unary-slot-spec : {M : Type 1} → statement M
-unary-slot-spec = tie.close (tie.spec
-    (λ c. search needs) (λ c. search needs) (λ c. search needs) (λ c. search needs) (λ c. search needs) (λ c. search needs)
-    (λ c κs. search needs) returns-3)
+unary-slot-spec =
+    tie.close (tie.spec (λ c. search needs) (λ c. search needs) (λ c. search needs)
+    (λ c. search needs) (λ c. search needs) (λ c. search needs) (λ c κs. search needs) returns-3)

@@ -11,5 +11,6 @@ abbrev μ-loop : tie.MeasureT-loop
 μ-loop count i₀ i = count - i
 
 pub check-files-spec : {M : Type 1} → statement M
-check-files-spec = tie.close (tie.spec
-    Inv-loop μ-loop (λ c. search needs) (λ c κs. search needs) (λ c. search needs) (λ c. search needs) (λ c. search needs) (λ c. search needs))
+check-files-spec =
+    tie.close (tie.spec Inv-loop μ-loop (λ c. search needs) (λ c κs. search needs)
+    (λ c. search needs) (λ c. search needs) (λ c. search needs) (λ c. search needs))

@@ -22,6 +22,7 @@ returns-6 : tie.Need-returns-6
 returns-6 c = rw (c .enum-told6 .given .1)
 
 pub compare-reals-spec : {M : Type 1} → statement M
-compare-reals-spec = tie.close (tie.spec
-    (λ c. search needs) (λ c. search needs) (λ c. search needs) (λ c. search needs) (λ c. search needs) (λ c. search needs) returns
-    returns-2 returns-3 returns-4 returns-5 returns-6)
+compare-reals-spec =
+    tie.close (tie.spec (λ c. search needs) (λ c. search needs) (λ c. search needs)
+    (λ c. search needs) (λ c. search needs) (λ c. search needs) returns returns-2 returns-3
+    returns-4 returns-5 returns-6)

@@ -13,6 +13,7 @@ abbrev μ-loop : tie.MeasureT-loop
 μ-loop x place d₀ i₀ d i = length d₀ - i
 
 pub cut-spec : {M : Type 1} → statement M
-cut-spec = tie.close (tie.spec
-    Inv-loop μ-loop (λ c. search needs) (λ c κs. search needs) (λ c. search needs) (λ c. search needs) (λ c. search needs) (λ c. search needs)
+cut-spec =
+    tie.close (tie.spec Inv-loop μ-loop (λ c. search needs) (λ c κs. search needs)
+    (λ c. search needs) (λ c. search needs) (λ c. search needs) (λ c. search needs)
     (λ c. search needs) (λ c. search needs))

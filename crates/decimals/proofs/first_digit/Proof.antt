@@ -12,6 +12,6 @@ abbrev μ-loop : tie.MeasureT-loop
 μ-loop d i₀ i = length d - i
 
 pub first-digit-spec : {M : Type 1} → statement M
-first-digit-spec = tie.close (tie.spec
-    Inv-loop μ-loop (λ c. search needs) (λ c. search needs) (λ c. search needs) (λ c. search needs) (λ c. search needs) (λ c. search needs)
-    (λ c. search needs))
+first-digit-spec =
+    tie.close (tie.spec Inv-loop μ-loop (λ c. search needs) (λ c. search needs) (λ c. search needs)
+    (λ c. search needs) (λ c. search needs) (λ c. search needs) (λ c. search needs))

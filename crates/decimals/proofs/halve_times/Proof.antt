@@ -13,6 +13,7 @@ abbrev μ-loop : tie.MeasureT-loop
 μ-loop d₀ n k₀ d k = n - k
 
 pub halve-times-spec : {M : Type 1} → statement M
-halve-times-spec = tie.close (tie.spec
-    Inv-loop μ-loop (λ c. search needs) (λ c κs. search needs) (λ c. search needs) (λ c. search needs) (λ c. search needs) (λ c. search needs)
+halve-times-spec =
+    tie.close (tie.spec Inv-loop μ-loop (λ c. search needs) (λ c κs. search needs)
+    (λ c. search needs) (λ c. search needs) (λ c. search needs) (λ c. search needs)
     (λ c. search needs))

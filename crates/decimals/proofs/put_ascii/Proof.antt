@@ -13,6 +13,7 @@ abbrev μ-loop : tie.MeasureT-loop
 μ-loop d out₀ i₀ out i = length out₀ - i
 
 pub put-ascii-spec : {M : Type 1} → statement M
-put-ascii-spec = tie.close (tie.spec
-    Inv-loop μ-loop (λ c. search needs) (λ c κs. search needs) (λ c. search needs) (λ c. search needs) (λ c. search needs) (λ c. search needs)
+put-ascii-spec =
+    tie.close (tie.spec Inv-loop μ-loop (λ c. search needs) (λ c κs. search needs)
+    (λ c. search needs) (λ c. search needs) (λ c. search needs) (λ c. search needs)
     (λ c. search needs) (λ c. search needs))

@@ -13,6 +13,7 @@ abbrev μ-loop : tie.MeasureT-loop
 μ-loop low x high closed from d₀ n₀ d n = 18 - n
 
 pub put-shortest-spec : {M : Type 1} → statement M
-put-shortest-spec = tie.close (tie.spec
-    Inv-loop μ-loop (λ c. search needs) (λ c. search needs) (λ c κs. search needs) (λ c. search needs) (λ c. search needs) (λ c. search needs)
+put-shortest-spec =
+    tie.close (tie.spec Inv-loop μ-loop (λ c. search needs) (λ c. search needs)
+    (λ c κs. search needs) (λ c. search needs) (λ c. search needs) (λ c. search needs)
     (λ c. search needs) (λ c. search needs) (λ c. search needs) (λ c. search needs))

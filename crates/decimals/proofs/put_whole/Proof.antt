@@ -12,6 +12,7 @@ abbrev μ-loop : tie.MeasureT-loop
 μ-loop n d₀ rest₀ i₀ d rest i = i
 
 pub put-whole-spec : {M : Type 1} → statement M
-put-whole-spec = tie.close (tie.spec
-    Inv-loop μ-loop (λ c. search needs) (λ c. search needs) (λ c κs. search needs) (λ c. search needs) (λ c. search needs) (λ c. search needs)
+put-whole-spec =
+    tie.close (tie.spec Inv-loop μ-loop (λ c. search needs) (λ c. search needs)
+    (λ c κs. search needs) (λ c. search needs) (λ c. search needs) (λ c. search needs)
     (λ c. search needs))

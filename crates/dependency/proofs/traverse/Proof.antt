@@ -9,7 +9,9 @@ use Rattle.dependency.proofs.traverse.Tie as tie
 slice-aggregate-roots : tie.Need-slice-aggregate-roots
 slice-aggregate-roots c =
     let e-list-roots = c .before .before .list-roots in
-    sym (length-take-le _ _ (let h = e-list-roots .ensures .1 in let k = e-list-roots .kept .1 .0 in omega arith))
+    sym (length-take-le _ _ (let h = e-list-roots .ensures .1 in
+    let k = e-list-roots .kept .1 .0 in
+    omega arith))
 
 run-requires : tie.Need-run-requires
 run-requires c κs =
@@ -20,9 +22,21 @@ run-requires c κs =
     let e-fingerprints = at-e-fingerprints .fingerprints in
     let e-measure2 = at-e-fingerprints .before .before .measure2 in
     let e-measure = at-e-fingerprints .before .before .before .measure in
-    let s = at-e-fingerprints .before .before .before .before .before .before .before .before .before .before .before in
-    ((e-measure .ensures, e-measure2 .ensures, e-list-roots .ensures .0 ∙ roots-listed (e-find-roots .ensures), e-fingerprints .ensures), (s .pre, refl))
+    let s = at-e-fingerprints .before .before .before .before .before .before .before .before
+    .before .before .before in (
+      (
+        e-measure .ensures,
+        e-measure2 .ensures,
+        e-list-roots .ensures .0 ∙ roots-listed (e-find-roots .ensures),
+        e-fingerprints .ensures,
+      ),
+      (s .pre, refl),
+    )
 
 pub traverse-spec : {M : Type 1} → statement M
-traverse-spec = tie.close (tie.spec
-    (λ c κs. search needs) (λ c κs. search needs) (λ c. search needs) (λ c κs. search needs) (λ c. search needs) (λ c κs. search needs) (λ c. search needs) (λ c κs. search needs) (λ c. search needs) slice-aggregate-roots (λ c. search needs) (λ c. search needs) run-requires (λ c. search needs) (λ c. search needs) (λ c. search needs) (λ c. search needs))
+traverse-spec =
+    tie.close (tie.spec (λ c κs. search needs) (λ c κs. search needs) (λ c. search needs)
+    (λ c κs. search needs) (λ c. search needs) (λ c κs. search needs) (λ c. search needs)
+    (λ c κs. search needs) (λ c. search needs) slice-aggregate-roots (λ c. search needs)
+    (λ c. search needs) run-requires (λ c. search needs) (λ c. search needs) (λ c. search needs)
+    (λ c. search needs))

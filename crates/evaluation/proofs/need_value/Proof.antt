@@ -15,17 +15,41 @@ use Rattle.evaluation.proofs.need_value.Statement.{statement}
 use Rattle.evaluation.proofs.need_value.Tie as tie
 
 returns : tie.Need-returns
-returns c = λ b d. need-circular (pairGraph (now (c .before .before .before .before .before .before .before .args .v)) b (now (c .before .before .before .before .before .before .before .args .w)) d) (now (c .before .before .before .before .before .before .before .args .target)) (now (c .before .before .before .before .before .before .before .args .flag)) (c .before .before .before .before .before .before .before .args .x) (c .before .before .before .before .before .before .before .args .i) (λ y. seen (slotAt (now (c .before .before .before .before .before .before .before .args .table)) y)) (c .if1 .taken)
+returns c =
+    let args = c .before .before .before .before .before .before .before .args in
+    λ b d. need-circular (pairGraph (now (args .v)) b (now (args .w)) d) (now (args .target))
+    (now (args .flag)) (args .x) (args .i) (λ y. seen (slotAt (now (args .table)) y))
+    (c .if1 .taken)
 
 led-to-requires : tie.Need-led-to-requires
-led-to-requires c κs = (c .before .before .before .before .before .before .before .before .before .pre .first-formed, c .before .before .before .before .before .before .before .before .before .pre .second-formed, c .before .before .before .before .before .before .before .before .before .pre .node, c .before .before .before .before .before .before .before .before .before .pre .target-room, λ b d. subst (λ (n : ℕ). c .before .before .before .before .before .before .before .before .before .args .i < n) (c .before .led-count .ensures .0 b d) (c .if2 .taken))
+led-to-requires c κs =
+    let start = c .before .before .before .before .before .before .before .before .before in (
+      start .pre .first-formed,
+      start .pre .second-formed,
+      start .pre .node,
+      start .pre .target-room,
+      λ b d. subst (λ (n : ℕ). start .args .i < n) (c .before .led-count .ensures .0 b d)
+          (c .if2 .taken),
+    )
 
 returns-2 : tie.Need-returns-2
-returns-2 c = λ b d. need-found (pairGraph (now (c .before .before .before .before .before .before .before .before .before .before .before .args .v)) b (now (c .before .before .before .before .before .before .before .before .before .before .before .args .w)) d) (now (c .before .before .before .before .before .before .before .before .before .before .before .args .target)) (now (c .before .before .before .before .before .before .before .before .before .before .before .args .flag)) (c .before .before .before .before .before .before .before .before .before .before .before .args .x) (c .before .before .before .before .before .before .before .before .before .before .before .args .i) (λ y. seen (slotAt (now (c .before .before .before .before .before .before .before .before .before .before .before .args .table)) y)) (c .before .before .before .before .if1 .left) (subst (λ (n : ℕ). c .before .before .before .before .before .before .before .before .before .before .before .args .i < n) (c .before .before .before .led-count .ensures .0 b d) (c .before .before .if2 .taken)) (c .before .led-to .ensures .0 b d) (c .value-in .ensures)
+returns-2 c =
+    let b3 = c .before .before .before in
+    let args = b3 .before .before .before .before .before .before .before .before .args in
+    λ b d. need-found (pairGraph (now (args .v)) b (now (args .w)) d) (now (args .target))
+    (now (args .flag)) (args .x) (args .i) (λ y. seen (slotAt (now (args .table)) y))
+    (b3 .before .if1 .left) (subst (λ (n : ℕ). args .i < n) (b3 .led-count .ensures .0 b d)
+    (c .before .before .if2 .taken)) (c .before .led-to .ensures .0 b d) (c .value-in .ensures)
 
 returns-3 : tie.Need-returns-3
-returns-3 c = λ b d. need-beyond (pairGraph (now (c .before .before .before .before .before .before .before .before .before .args .v)) b (now (c .before .before .before .before .before .before .before .before .before .args .w)) d) (now (c .before .before .before .before .before .before .before .before .before .args .target)) (now (c .before .before .before .before .before .before .before .before .before .args .flag)) (c .before .before .before .before .before .before .before .before .before .args .x) (c .before .before .before .before .before .before .before .before .before .args .i) (λ y. seen (slotAt (now (c .before .before .before .before .before .before .before .before .before .args .table)) y)) (c .before .before .if1 .left) (subst (λ (n : ℕ). n ≤ c .before .before .before .before .before .before .before .before .before .args .i) (c .before .led-count .ensures .0 b d) (search needs))
+returns-3 c =
+    let args = c .before .before .before .before .before .before .before .before .before .args in
+    λ b d. need-beyond (pairGraph (now (args .v)) b (now (args .w)) d) (now (args .target))
+    (now (args .flag)) (args .x) (args .i) (λ y. seen (slotAt (now (args .table)) y))
+    (c .before .before .if1 .left) (subst (λ (n : ℕ). n ≤ args .i)
+    (c .before .led-count .ensures .0 b d) (search needs))
 
 pub need-value-spec : {M : Type 1} → statement M
-need-value-spec = tie.close (tie.spec
-    (λ c. search needs) (λ c. search needs) returns (λ c κs. search needs) led-to-requires (λ c κs. search needs) returns-2 returns-3)
+need-value-spec =
+    tie.close (tie.spec (λ c. search needs) (λ c. search needs) returns (λ c κs. search needs)
+    led-to-requires (λ c κs. search needs) returns-2 returns-3)

@@ -8,7 +8,16 @@ use Rattle.evaluation.proofs.node_from.Statement.{statement}
 use Rattle.evaluation.proofs.node_from.Tie as tie
 
 returns : tie.Need-returns
-returns c = c .node-of .ensures ∙ ap (λ (k : ℕ). nodeOf (c .before .before .before .before .before .args .second) k (c .before .before .operand .result) (c .before .operand2 .result)) (c .before .before .before .kind .ensures) ∙ ap (λ (k : ℕ). nodeOf (c .before .before .before .before .before .args .second) (kindAt (now (c .before .before .before .before .before .args .words)) (c .before .before .before .before .before .args .i)) k (c .before .operand2 .result)) (c .before .before .operand .ensures) ∙ ap (λ (k : ℕ). nodeOf (c .before .before .before .before .before .args .second) (kindAt (now (c .before .before .before .before .before .args .words)) (c .before .before .before .before .before .args .i)) (operandAt (now (c .before .before .before .before .before .args .words)) (c .before .before .before .before .before .args .i) 0) k) (c .before .operand2 .ensures)
+returns c =
+    let b2 = c .before .before in
+    let args = b2 .before .before .before .args in
+    c .node-of .ensures
+    ∙ ap (λ (k : ℕ). nodeOf (args .second) k (b2 .operand .result) (c .before .operand2 .result))
+    (b2 .before .kind .ensures)
+    ∙ ap (λ (k : ℕ). nodeOf (args .second) (kindAt (now (args .words)) (args .i)) k
+    (c .before .operand2 .result)) (b2 .operand .ensures)
+    ∙ ap (λ (k : ℕ). nodeOf (args .second) (kindAt (now (args .words)) (args .i))
+    (operandAt (now (args .words)) (args .i) 0) k) (c .before .operand2 .ensures)
 
 pub node-from-spec : {M : Type 1} → statement M
 node-from-spec = tie.close (tie.spec

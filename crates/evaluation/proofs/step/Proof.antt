@@ -10,12 +10,34 @@ use Rattle.evaluation.proofs.step.Statement.{statement}
 use Rattle.evaluation.proofs.step.Tie as tie
 
 node-at-requires : tie.Need-node-at-requires
-node-at-requires c κs = (stands-small (now (c .before .before .before .before .before .before .before .before .before .before .before .before .before .args .v)) (now (c .before .before .before .before .before .before .before .before .before .before .before .before .before .args .w)) (c .before .before .before .before .before .before .before .before .before .before .before .before .before .args .x) (c .before .before .before .before .before .before .before .before .before .before .before .before .before .pre .node), c .before .before .before .before .before .before .before .before .before .before .before .before .before .pre .first-formed .words-room, c .before .before .before .before .before .before .before .before .before .before .before .before .before .pre .second-formed .words-room)
+node-at-requires c κs =
+    let start = c .before .before .before .before .before .before .before .before .before .before
+    .before .before .before in (
+      stands-small (now (start .args .v)) (now (start .args .w)) (start .args .x)
+          (start .pre .node),
+      start .pre .first-formed .words-room,
+      start .pre .second-formed .words-room,
+    )
 
 returns : tie.Need-returns
-returns c = step-stored (needed (pairGraph (now (c .before .before .before .before .before .before .before .before .before .before .before .before .before .before .before .before .before .before .before .args .v)) (now (c .before .before .before .before .before .before .before .before .before .before .before .before .before .before .before .before .before .before .before .args .b)) (now (c .before .before .before .before .before .before .before .before .before .before .before .before .before .before .before .before .before .before .before .args .w)) (now (c .before .before .before .before .before .before .before .before .before .before .before .before .before .before .before .before .before .before .before .args .c))) (now (c .before .before .before .before .before .before .before .before .before .before .before .before .before .before .before .before .before .before .before .args .target)) (now (c .before .before .before .before .before .before .before .before .before .before .before .before .before .before .before .before .before .before .before .args .flag))) (ruleAt (now (c .before .before .before .before .before .before .before .before .before .before .before .before .before .before .before .before .before .before .before .args .v)) (now (c .before .before .before .before .before .before .before .before .before .before .before .before .before .before .before .before .before .before .before .args .b)) (now (c .before .before .before .before .before .before .before .before .before .before .before .before .before .before .before .before .before .before .before .args .w)) (now (c .before .before .before .before .before .before .before .before .before .before .before .before .before .before .before .before .before .before .before .args .c))) (rule-of (now (c .before .before .before .before .before .before .before .before .before .before .before .before .before .before .before .before .before .before .before .args .v)) (now (c .before .before .before .before .before .before .before .before .before .before .before .before .before .before .before .before .before .before .before .args .b)) (now (c .before .before .before .before .before .before .before .before .before .before .before .before .before .before .before .before .before .before .before .args .w)) (now (c .before .before .before .before .before .before .before .before .before .before .before .before .before .before .before .before .before .before .before .args .c)) (c .before .before .before .before .before .before .before .before .before .before .before .before .before .before .before .before .before .before .before .args .x) (map (λ y. seen (slotAt (now (c .before .before .before .before .before .before .before .before .before .before .before .before .before .before .before .before .before .before .before .args .table)) y)) (needed (pairGraph (now (c .before .before .before .before .before .before .before .before .before .before .before .before .before .before .before .before .before .before .before .args .v)) (now (c .before .before .before .before .before .before .before .before .before .before .before .before .before .before .before .before .before .before .before .args .b)) (now (c .before .before .before .before .before .before .before .before .before .before .before .before .before .before .before .before .before .before .before .args .w)) (now (c .before .before .before .before .before .before .before .before .before .before .before .before .before .before .before .before .before .before .before .args .c))) (now (c .before .before .before .before .before .before .before .before .before .before .before .before .before .before .before .before .before .before .before .args .target)) (now (c .before .before .before .before .before .before .before .before .before .before .before .before .before .before .before .before .before .before .before .args .flag)) (c .before .before .before .before .before .before .before .before .before .before .before .before .before .before .before .before .before .before .before .args .x))) (c .before .before .before .before .apply .ensures) (c .before .before .before .before .before .node-at .ensures) (c .before .before .before .before .before .before .before .before .before .before .need-value .ensures (now (c .before .before .before .before .before .before .before .before .before .before .before .before .before .before .before .before .before .before .before .args .b)) (now (c .before .before .before .before .before .before .before .before .before .before .before .before .before .before .before .before .before .before .before .args .c))) (c .before .before .before .before .before .before .before .before .need-value2 .ensures (now (c .before .before .before .before .before .before .before .before .before .before .before .before .before .before .before .before .before .before .before .args .b)) (now (c .before .before .before .before .before .before .before .before .before .before .before .before .before .before .before .before .before .before .before .args .c))) (c .before .before .before .before .before .before .need-value3 .ensures (now (c .before .before .before .before .before .before .before .before .before .before .before .before .before .before .before .before .before .before .before .args .b)) (now (c .before .before .before .before .before .before .before .before .before .before .before .before .before .before .before .before .before .before .before .args .c)))) (c .before .before .store .ensures)
+returns c =
+    let b4 = c .before .before .before .before in
+    let b8 = b4 .before .before .before .before in
+    let args = b8 .before .before .before .before .before .before .before .before .before .before
+    .before .args in
+    let b = args .b in
+    let c' = args .c in
+    step-stored (needed (pairGraph (now (args .v)) (now b) (now (args .w)) (now c'))
+    (now (args .target)) (now (args .flag)))
+    (ruleAt (now (args .v)) (now b) (now (args .w)) (now c')) (rule-of (now (args .v)) (now b)
+    (now (args .w)) (now c') (args .x) (map (λ y. seen (slotAt (now (args .table)) y)) (needed
+    (pairGraph (now (args .v)) (now b) (now (args .w)) (now c')) (now (args .target))
+    (now (args .flag)) (args .x))) (b4 .apply .ensures) (b4 .before .node-at .ensures)
+    (b8 .before .before .need-value .ensures (now b) (now c'))
+    (b8 .need-value2 .ensures (now b) (now c'))
+    (b4 .before .before .need-value3 .ensures (now b) (now c'))) (c .before .before .store .ensures)
 
 pub step-spec : {M : Type 1} → statement M
-step-spec = tie.close (tie.spec
-    (λ c κs. search needs) (λ c κs. search needs) (λ c κs. search needs) node-at-requires (λ c κs. search needs) (λ c κs. search needs)
-    (λ c. search needs) returns)
+step-spec =
+    tie.close (tie.spec (λ c κs. search needs) (λ c κs. search needs) (λ c κs. search needs)
+    node-at-requires (λ c κs. search needs) (λ c κs. search needs) (λ c. search needs) returns)

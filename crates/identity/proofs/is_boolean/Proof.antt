@@ -9,6 +9,7 @@ returns-3 : tie.Need-returns-3
 returns-3 c = sym (ap (sameBoolean (c .before .before .before .args .x)) (c .before .b .given .1))
 
 pub is-boolean-spec : {M : Type 1} → statement M
-is-boolean-spec = tie.close (tie.spec
-    (λ c. search needs) (λ c. search needs) (λ c. search needs) (λ c. search needs) (λ c. search needs) (λ c. search needs)
-    (λ c. search needs) (λ c. search needs) returns-3 (λ c. search needs) (λ c. search needs) (λ c. search needs))
+is-boolean-spec =
+    tie.close (tie.spec (λ c. search needs) (λ c. search needs) (λ c. search needs)
+    (λ c. search needs) (λ c. search needs) (λ c. search needs) (λ c. search needs)
+    (λ c. search needs) returns-3 (λ c. search needs) (λ c. search needs) (λ c. search needs))

@@ -11,7 +11,10 @@ use Rattle.identity.proofs.same.Tie as tie
 returns : tie.Need-returns
 returns c =
     let a = c .before .before .before .before .before .before .before .before .args in
-    rw (c .before .before .before .before .a4 .given .1, c .before .before .if1 .taken) (c .is-string .ensures ∙ ap (λ (s : List ℕ). sameString (now (a .first)) (now (a .second)) s (a .b)) (c .before .cut .ensures))
+    rw (c .before .before .before .before .a4 .given .1, c .before .before .if1 .taken)
+    (c .is-string .ensures
+    ∙ ap (λ (s : List ℕ). sameString (now (a .first)) (now (a .second)) s (a .b))
+    (c .before .cut .ensures))
 
 returns-2 : tie.Need-returns-2
 returns-2 c = rw (c .before .enum-told .given .1) (c .is-undefined .ensures)
@@ -31,12 +34,16 @@ returns-6 c = rw (c .before .before .a3 .given .1) (c .is-real .ensures)
 returns-7 : tie.Need-returns-7
 returns-7 c =
     let a = c .before .before .before .before .before .before .before .before .args in
-    rw (c .before .before .before .before .a4 .given .1, c .before .before .if1 .left) (c .is-string2 .ensures ∙ ap (λ (s : List ℕ). sameString (now (a .first)) (now (a .second)) s (a .b)) (c .before .cut2 .ensures))
+    rw (c .before .before .before .before .a4 .given .1, c .before .before .if1 .left)
+    (c .is-string2 .ensures
+    ∙ ap (λ (s : List ℕ). sameString (now (a .first)) (now (a .second)) s (a .b))
+    (c .before .cut2 .ensures))
 
 pub same-spec : {M : Type 1} → statement M
-same-spec = tie.close (tie.spec
-    (λ c. search needs) (λ c κs. search needs) (λ c. search needs) (λ c κs. search needs) (λ c. search needs)
-    (λ c κs. search needs) (λ c. search needs) (λ c κs. search needs) (λ c. search needs) (λ c κs. search needs)
-    (λ c. search needs) (λ c. search needs) (λ c. search needs) (λ c κs. search needs) (λ c κs. search needs) returns
-    (λ c. search needs) (λ c. search needs) (λ c κs. search needs) (λ c κs. search needs) returns-2 returns-3 returns-4 returns-5
-    returns-6 returns-7)
+same-spec =
+    tie.close (tie.spec (λ c. search needs) (λ c κs. search needs) (λ c. search needs)
+    (λ c κs. search needs) (λ c. search needs) (λ c κs. search needs) (λ c. search needs)
+    (λ c κs. search needs) (λ c. search needs) (λ c κs. search needs) (λ c. search needs)
+    (λ c. search needs) (λ c. search needs) (λ c κs. search needs) (λ c κs. search needs) returns
+    (λ c. search needs) (λ c. search needs) (λ c κs. search needs) (λ c κs. search needs) returns-2
+    returns-3 returns-4 returns-5 returns-6 returns-7)

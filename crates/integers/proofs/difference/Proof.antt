@@ -6,7 +6,9 @@ use Rattle.integers.proofs.difference.Statement.{statement}
 use Rattle.integers.proofs.difference.Tie as tie
 
 returns : tie.Need-returns
-returns c = difference-law width (c .wrapping-sub-u32 .result) (c .before .args .a) (c .before .args .b) (search needs) (search needs) (search needs) (c .wrapping-sub-u32 .ensures)
+returns c =
+    difference-law width (c .wrapping-sub-u32 .result) (c .before .args .a) (c .before .args .b)
+    (search needs) (search needs) (search needs) (c .wrapping-sub-u32 .ensures)
 
 pub difference-spec : {M : Type 1} → statement M
 difference-spec = tie.close (tie.spec

@@ -6,7 +6,9 @@ use Rattle.integers.proofs.negation.Statement.{statement}
 use Rattle.integers.proofs.negation.Tie as tie
 
 returns : tie.Need-returns
-returns c = neg-law width (c .wrapping-sub-u32 .result) (c .before .args .a) (search needs) (search needs) (c .wrapping-sub-u32 .ensures)
+returns c =
+    neg-law width (c .wrapping-sub-u32 .result) (c .before .args .a) (search needs) (search needs)
+    (c .wrapping-sub-u32 .ensures)
 
 pub negation-spec : {M : Type 1} → statement M
 negation-spec = tie.close (tie.spec

@@ -7,7 +7,9 @@ use Rattle.integers.proofs.sum.Statement.{statement}
 use Rattle.integers.proofs.sum.Tie as tie
 
 returns : tie.Need-returns
-returns c = c .wrapping-add-u32 .ensures ∙ sum-law width (c .before .args .a) (c .before .args .b) (search needs) (search needs)
+returns c =
+    c .wrapping-add-u32 .ensures
+    ∙ sum-law width (c .before .args .a) (c .before .args .b) (search needs) (search needs)
 
 pub sum-spec : {M : Type 1} → statement M
 sum-spec = tie.close (tie.spec

@@ -12,9 +12,21 @@ use Rattle.ad.proofs.copy.Reads as copy-reads
 use Rattle.ad.proofs.store_node.Reads as store-node-reads
 
 returns-2 : tie.Need-returns-2
-returns-2 c = let a = c .before .before .before .before .before .before .before .before .before .before .before .before .args in let l = (length-slice (c .before .before .before .before .before .before .before .before .before .before .before .before .args .p) (c .before .before .before .before .before .before .before .before .before .before .before .before .args .q) (c .before .before .before .before .before .before .before .before .before .before .before .before .args .text .now) (c .before .before .before .before .before .before .before .before .before .before .before .before .pre .high)) in (omega arith, refl, refl, ap (_+_ (a .k)) (sym l), text-stored (a .kind) (a .n) (a .k) _ (slice (a .p) (a .q) (a .text .now)) (a .words .now) (a .bytes .now) _ _ l (c .before .before .before .before .before .before .store-node .ensures) (c .before .before .copy .ensures))
+returns-2 c =
+    let b6 = c .before .before .before .before .before .before in
+    let start = b6 .before .before .before .before .before .before in
+    let a = start .args in
+    let l = (length-slice (a .p) (a .q) (a .text .now) (start .pre .high)) in (
+      omega arith,
+      refl,
+      refl,
+      ap (_+_ (a .k)) (sym l),
+      text-stored (a .kind) (a .n) (a .k) _ (slice (a .p) (a .q) (a .text .now)) (a .words .now)
+          (a .bytes .now) _ _ l (b6 .store-node .ensures) (c .before .before .copy .ensures),
+    )
 
 pub name-leaf-spec : {M : Type 1} → statement M
-name-leaf-spec = tie.close (tie.spec
-    (λ c. search needs) (λ c. search needs) (λ c. search needs) (λ c κs. search needs) (λ c κs. search needs) (λ c. search needs) (λ c. search needs)
+name-leaf-spec =
+    tie.close (tie.spec (λ c. search needs) (λ c. search needs) (λ c. search needs)
+    (λ c κs. search needs) (λ c κs. search needs) (λ c. search needs) (λ c. search needs)
     (λ c. search needs) (λ c. search needs) (λ c. search needs) returns-2)

@@ -16,11 +16,15 @@ returns-2 c = rw (c .before .before .before .before .enum-told2 .given .1) (c .b
 
 returns-3 : tie.Need-returns-3
 unfolding literalNode
-returns-3 c = rw (c .before .before .before .before .before .before .c .given .1, c .before .before .before .before .if1 .taken) (c .before .before .store-node3 .ensures)
+returns-3 c =
+    let b4 = c .before .before .before .before in
+    rw (b4 .before .before .c .given .1, b4 .if1 .taken) (c .before .before .store-node3 .ensures)
 
 returns-4 : tie.Need-returns-4
 unfolding literalNode
-returns-4 c = rw (c .before .before .before .before .before .before .c .given .1, c .before .before .before .before .if1 .left) (c .before .before .store-node4 .ensures)
+returns-4 c =
+    let b4 = c .before .before .before .before in
+    rw (b4 .before .before .c .given .1, b4 .if1 .left) (c .before .before .store-node4 .ensures)
 
 returns-5 : tie.Need-returns-5
 unfolding literalNode
@@ -31,8 +35,9 @@ unfolding literalNode
 returns-6 c = rw (c .before .before .before .before .before .c3 .given .1) (c .before .before .store-node6 .ensures)
 
 pub store-constant-spec : {M : Type 1} → statement M
-store-constant-spec = tie.close (tie.spec
-    (λ c. search needs) (λ c κs. search needs) (λ c. search needs) (λ c κs. search needs) (λ c. search needs) (λ c κs. search needs)
-    (λ c κs. search needs) (λ c. search needs) (λ c κs. search needs) (λ c. search needs) (λ c κs. search needs) (λ c. search needs) returns
-    (λ c. search needs) returns-2 (λ c. search needs) returns-3 (λ c. search needs) returns-4 (λ c. search needs) returns-5 (λ c. search needs)
-    returns-6)
+store-constant-spec =
+    tie.close (tie.spec (λ c. search needs) (λ c κs. search needs) (λ c. search needs)
+    (λ c κs. search needs) (λ c. search needs) (λ c κs. search needs) (λ c κs. search needs)
+    (λ c. search needs) (λ c κs. search needs) (λ c. search needs) (λ c κs. search needs)
+    (λ c. search needs) returns (λ c. search needs) returns-2 (λ c. search needs) returns-3
+    (λ c. search needs) returns-4 (λ c. search needs) returns-5 (λ c. search needs) returns-6)

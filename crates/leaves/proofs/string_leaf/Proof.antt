@@ -12,9 +12,21 @@ use Rattle.ad.proofs.store_node.Reads as store-node-reads
 use Rattle.leaves.proofs.copy_string.Reads as copy-string-reads
 
 returns-2 : tie.Need-returns-2
-returns-2 c = let a = c .before .before .before .before .before .before .before .before .before .before .before .before .args in let l = string-size (a .text .now) (a .p) (a .len) (c .before .before .before .before .before .before .before .before .before .before .before .before .pre .string) in (omega arith, refl, refl, ap (_+_ (a .k)) (sym l), text-stored 6 (a .n) (a .k) _ (stringAt (a .text .now) (a .p)) (a .words .now) (a .bytes .now) _ _ l (c .before .before .before .before .before .before .store-node .ensures) (c .before .before .copy-string .ensures))
+returns-2 c =
+    let b6 = c .before .before .before .before .before .before in
+    let start = b6 .before .before .before .before .before .before in
+    let a = start .args in
+    let l = string-size (a .text .now) (a .p) (a .len) (start .pre .string) in (
+      omega arith,
+      refl,
+      refl,
+      ap (_+_ (a .k)) (sym l),
+      text-stored 6 (a .n) (a .k) _ (stringAt (a .text .now) (a .p)) (a .words .now) (a .bytes .now)
+          _ _ l (b6 .store-node .ensures) (c .before .before .copy-string .ensures),
+    )
 
 pub string-leaf-spec : {M : Type 1} → statement M
-string-leaf-spec = tie.close (tie.spec
-    (λ c. search needs) (λ c. search needs) (λ c κs. search needs) (λ c. search needs) (λ c κs. search needs) (λ c. search needs) (λ c. search needs)
+string-leaf-spec =
+    tie.close (tie.spec (λ c. search needs) (λ c. search needs) (λ c κs. search needs)
+    (λ c. search needs) (λ c κs. search needs) (λ c. search needs) (λ c. search needs)
     (λ c. search needs) (λ c. search needs) returns-2)

@@ -38,11 +38,23 @@ decimal-length-below t =
 abbrev decimal-length-claims : ℕ → decimal-length-lts.Claims
 decimal-length-claims t = (decimal-length-below t, decimal-length.Post)
 
-decimal-length-returns : (t : ℕ) → decimal-length-lts.Need-returns (decimal-length-claims t) (decimal-length-at t) decimal-length.Post
+decimal-length-returns :
+    (t : ℕ) → decimal-length-lts.Need-returns (decimal-length-claims t) (decimal-length-at t)
+    decimal-length.Post
 decimal-length-returns t c = (rw (decimal-one _ (c .if1 .taken)) refl, omega arith)
 
-decimal-length-returns-2 : (t : ℕ) → decimal-length-lts.Need-returns-2 (decimal-length-claims t) (decimal-length-at t) decimal-length.Post
-decimal-length-returns-2 t c = let v = c .before .before .args .v in (rw (decimal-more v (c .before .if1 .left)) (omega (arith, c .decimal-length .ensures .0, length-append (decimal (v / 10)) ((code "0" + v % 10) ∷ []))), omega arith)
+decimal-length-returns-2 :
+    (t : ℕ) → decimal-length-lts.Need-returns-2 (decimal-length-claims t) (decimal-length-at t)
+    decimal-length.Post
+decimal-length-returns-2 t c =
+    let v = c .before .before .args .v in (
+      rw (decimal-more v (c .before .if1 .left)) (omega (
+        arith,
+        c .decimal-length .ensures .0,
+        length-append (decimal (v / 10)) ((code "0" + v % 10) ∷ []),
+      )),
+      omega arith,
+    )
 
 pub +decimal-length-spec : {M : Type 1} → statement M
 +decimal-length-spec = close μ-decimal-length λ t. decimal-length-lts.spec (decimal-length-claims t)

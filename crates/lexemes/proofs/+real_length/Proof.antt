@@ -32,10 +32,22 @@ abbrev real-length-claims : ℕ → real-length-lts.Claims
 real-length-claims t = (decimal-length-reads.Asked, decimal-length-reads.Learnt, real-length-below t, real-length.Post)
 
 real-length-returns : (t : ℕ) → real-length-lts.Need-returns (real-length-claims t) (real-length-at t) real-length.Post
-real-length-returns t c = let v = c .before .before .args .v in (rw (c .before .if1 .taken, real-none v) (omega (arith, c .decimal-length .ensures .0, length-append (decimal v) (code "." ∷ []))), omega arith)
+real-length-returns t c =
+    let v = c .before .before .args .v in (
+      rw (c .before .if1 .taken, real-none v)
+          (omega (arith, c .decimal-length .ensures .0, length-append (decimal v) (code "." ∷ []))),
+      omega arith,
+    )
 
-real-length-returns-2 : (t : ℕ) → real-length-lts.Need-returns-2 (real-length-claims t) (real-length-at t) real-length.Post
-real-length-returns-2 t c = let v = c .before .before .args .v in (real-step v (c .before .before .args .places) _ (c .before .if1 .left) (c .real-length .ensures .0), omega arith)
+real-length-returns-2 :
+    (t : ℕ) → real-length-lts.Need-returns-2 (real-length-claims t) (real-length-at t)
+    real-length.Post
+real-length-returns-2 t c =
+    let v = c .before .before .args .v in (
+      real-step v (c .before .before .args .places) _ (c .before .if1 .left)
+          (c .real-length .ensures .0),
+      omega arith,
+    )
 
 pub +real-length-spec : {M : Type 1} → statement M
 +real-length-spec = close μ-real-length λ t. real-length-lts.spec (real-length-claims t)

@@ -18,9 +18,18 @@ returns : tie.Need-returns
 returns c = name-empty (c .before .before .args .name .now) (c .if1 .taken)
 
 returns-2 : tie.Need-returns-2
-returns-2 c = c .both3 .ensures ∙ ands (c .before .before .before .both .ensures ∙ ands (c .before .before .before .before .before .starts-name .ensures) (c .before .before .before .before .go-on .ensures)) (c .before .both2 .ensures ∙ ap (λ (t : Bool). leb (length (c .before .before .before .before .before .before .before .before .before .args .name .now)) 64 && t) (ap not (c .before .before .is-reserved .ensures))) ∙ sym (name-parts (c .before .before .before .before .before .before .before .before .before .args .name .now))
+returns-2 c =
+    let b2 = c .before .before in
+    let b4 = b2 .before .before in
+    let name = b4 .before .before .before .before .before .args .name .now in
+    c .both3 .ensures
+    ∙ ands (b2 .before .both .ensures
+    ∙ ands (b4 .before .starts-name .ensures) (b4 .go-on .ensures)) (c .before .both2 .ensures
+    ∙ ap (λ (t : Bool). leb (length name) 64 && t) (ap not (b2 .is-reserved .ensures)))
+    ∙ sym (name-parts name)
 
 pub is-name-spec : {M : Type 1} → statement M
-is-name-spec = tie.close (tie.spec
-    returns (λ c. search needs) (λ c κs. search needs) (λ c κs. search needs) (λ c κs. search needs) (λ c κs. search needs) (λ c κs. search needs)
-    (λ c κs. search needs) returns-2)
+is-name-spec =
+    tie.close (tie.spec returns (λ c. search needs) (λ c κs. search needs) (λ c κs. search needs)
+    (λ c κs. search needs) (λ c κs. search needs) (λ c κs. search needs) (λ c κs. search needs)
+    returns-2)

@@ -12,11 +12,30 @@ use Rattle.text.proofs.same_name.Reads as same-name-reads
 
 returns : tie.Need-returns
 unfolding bytes
-returns c = c .either7 .ensures ∙ ors (c .before .before .either5 .ensures ∙ ors (c .before .before .before .before .before .before .before .before .before .before .before .before .before .before .before .before .before .before .either .ensures ∙ ors (c .before .before .before .before .before .before .before .before .before .before .before .before .before .before .before .before .before .before .before .before .before .same-name .ensures) (c .before .before .before .before .before .before .before .before .before .before .before .before .before .before .before .before .before .before .before .same-name2 .ensures)) (c .before .before .before .before .before .before .before .before .before .before .before .before .before .either2 .ensures ∙ ors (c .before .before .before .before .before .before .before .before .before .before .before .before .before .before .before .before .same-name3 .ensures) (c .before .before .before .before .before .before .before .before .before .before .before .before .before .before .same-name4 .ensures))) (c .before .either6 .ensures ∙ ors (c .before .before .before .before .before .before .before .before .either3 .ensures ∙ ors (c .before .before .before .before .before .before .before .before .before .before .before .same-name5 .ensures) (c .before .before .before .before .before .before .before .before .before .same-name6 .ensures)) (c .before .before .before .either4 .ensures ∙ ors (c .before .before .before .before .before .before .same-name7 .ensures) (c .before .before .before .before .same-name8 .ensures))) ∙ sym (reserved-words (c .before .before .before .before .before .before .before .before .before .before .before .before .before .before .before .before .before .before .before .before .before .before .before .before .args .name .now))
+returns c =
+    let b3 = c .before .before .before in
+    let b8 = b3 .before .before .before .before .before in
+    let b13 = b8 .before .before .before .before .before in
+    let b18 = b13 .before .before .before .before .before in
+    c .either7 .ensures
+    ∙ ors (c .before .before .either5 .ensures
+    ∙ ors (b18 .either .ensures
+    ∙ ors (b18 .before .before .before .same-name .ensures) (b18 .before .same-name2 .ensures))
+    (b13 .either2 .ensures
+    ∙ ors (b13 .before .before .before .same-name3 .ensures) (b13 .before .same-name4 .ensures)))
+    (c .before .either6 .ensures
+    ∙ ors (b8 .either3 .ensures
+    ∙ ors (b8 .before .before .before .same-name5 .ensures) (b8 .before .same-name6 .ensures))
+    (b3 .either4 .ensures
+    ∙ ors (b3 .before .before .before .same-name7 .ensures) (b3 .before .same-name8 .ensures)))
+    ∙ sym (reserved-words (b18 .before .before .before .before .before .before .args .name .now))
 
 pub is-reserved-spec : {M : Type 1} → statement M
-is-reserved-spec = tie.close (tie.spec
-    (λ c. search needs) (λ c κs. search needs) (λ c. search needs) (λ c κs. search needs) (λ c κs. search needs) (λ c. search needs)
-    (λ c κs. search needs) (λ c. search needs) (λ c κs. search needs) (λ c κs. search needs) (λ c. search needs) (λ c κs. search needs)
-    (λ c. search needs) (λ c κs. search needs) (λ c κs. search needs) (λ c. search needs) (λ c κs. search needs) (λ c. search needs)
-    (λ c κs. search needs) (λ c κs. search needs) (λ c κs. search needs) (λ c κs. search needs) (λ c κs. search needs) returns)
+is-reserved-spec =
+    tie.close (tie.spec (λ c. search needs) (λ c κs. search needs) (λ c. search needs)
+    (λ c κs. search needs) (λ c κs. search needs) (λ c. search needs) (λ c κs. search needs)
+    (λ c. search needs) (λ c κs. search needs) (λ c κs. search needs) (λ c. search needs)
+    (λ c κs. search needs) (λ c. search needs) (λ c κs. search needs) (λ c κs. search needs)
+    (λ c. search needs) (λ c κs. search needs) (λ c. search needs) (λ c κs. search needs)
+    (λ c κs. search needs) (λ c κs. search needs) (λ c κs. search needs) (λ c κs. search needs)
+    returns)

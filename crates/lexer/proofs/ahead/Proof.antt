@@ -9,7 +9,10 @@ use Rattle.lexer.proofs.ahead.Reads as reads
 use Rattle.lexer.proofs.ahead.Lts as lts
 
 returns-2 : tie.Need-returns-2
-returns-2 c = let h : length (c .before .args .text .now) ≤ c .before .args .p + c .before .args .k = omega arith in sym (List·getD-eq-default (c .before .args .text .now) 0 h)
+returns-2 c =
+    let args = c .before .args in
+    let h : length (args .text .now) ≤ args .p + args .k = omega arith in
+    sym (List·getD-eq-default (args .text .now) 0 h)
 
 pub ahead-spec : {M : Type 1} → statement M
 ahead-spec = tie.close (tie.spec

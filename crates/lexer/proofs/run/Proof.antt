@@ -15,23 +15,57 @@ use Rattle.lexer.proofs.run.Lts as lts
 use Rattle.lexer.proofs.in_class.Reads as in-class-reads
 
 abbrev Inv-loop : tie.InvT-loop
-Inv-loop text at digits i₀ i = (at ≤ i) × (i ≤ length text) × (frontOf (classOf digits) (drop at text) ≡ slice at i text ++ frontOf (classOf digits) (drop i text))
+Inv-loop text at digits i₀ i =
+    (at ≤ i) × (i ≤ length text) × (frontOf (classOf digits) (drop at text) ≡ slice at i text ++
+    frontOf (classOf digits) (drop i text))
 
 abbrev μ-loop : tie.MeasureT-loop
 μ-loop text at digits i₀ i = length text - i
 
 loop-holds : tie.Need-loop-holds Inv-loop μ-loop
-loop-holds c = (omega arith, omega arith, run-start (classOf (c .before .args .digits)) (c .before .args .text .now) (c .before .args .at))
+loop-holds c = (
+  omega arith,
+  omega arith,
+  run-start (classOf (c .before .args .digits)) (c .before .args .text .now) (c .before .args .at),
+)
 
 loop-again : tie.Need-loop-again Inv-loop μ-loop
-loop-again c = (omega arith, omega arith, c .before .before .before .before .loop .inv .2 ∙ run-step (classOf (c .before .before .before .before .before .before .args .digits)) (c .before .before .before .before .before .before .args .text .now) (c .before .before .before .before .before .before .args .at) (c .before .before .before .before .loop .i) (omega arith) (omega arith) (sym (c .before .in-class .ensures) ∙ c .if1 .taken))
+loop-again c =
+    let b4 = c .before .before .before .before in
+    let start = b4 .before .before in
+    let args = start .args in (
+      omega arith,
+      omega arith,
+      b4 .loop .inv .2
+          ∙ run-step (classOf (args .digits)) (args .text .now) (args .at) (b4 .loop .i)
+          (omega arith) (omega arith) (sym (c .before .in-class .ensures) ∙ c .if1 .taken),
+    )
 
 returns : tie.Need-returns Inv-loop μ-loop
-returns c = record { low = omega arith; high = omega arith; run = c .before .before .before .before .loop .inv .2 ∙ run-stop (classOf (c .before .before .before .before .before .before .args .digits)) (c .before .before .before .before .before .before .args .text .now) (c .before .before .before .before .before .before .args .at) (c .before .before .before .before .loop .i) (omega arith) (sym (c .before .in-class .ensures) ∙ c .if1 .left) }
+returns c =
+    let b4 = c .before .before .before .before in
+    let start = b4 .before .before in
+    let args = start .args in
+    record {
+      low = omega arith;
+      high = omega arith;
+      run = b4 .loop .inv .2
+          ∙ run-stop (classOf (args .digits)) (args .text .now) (args .at) (b4 .loop .i)
+          (omega arith) (sym (c .before .in-class .ensures) ∙ c .if1 .left);
+    }
 
 returns-2 : tie.Need-returns-2 Inv-loop μ-loop
-returns-2 c = record { low = omega arith; high = omega arith; run = c .before .loop .inv .2 ∙ run-end (classOf (c .before .before .before .args .digits)) (c .before .before .before .args .text .now) (c .before .before .before .args .at) (c .before .loop .i) (omega arith) }
+returns-2 c =
+    let args = c .before .before .before .args in
+    record {
+      low = omega arith;
+      high = omega arith;
+      run = c .before .loop .inv .2
+          ∙ run-end (classOf (args .digits)) (args .text .now) (args .at) (c .before .loop .i)
+          (omega arith);
+    }
 
 pub run-spec : {M : Type 1} → statement M
-run-spec = tie.close (tie.spec
-    Inv-loop μ-loop loop-holds (λ c. search needs) (λ c κs. search needs) (λ c. search needs) (λ c. search needs) loop-again returns returns-2)
+run-spec =
+    tie.close (tie.spec Inv-loop μ-loop loop-holds (λ c. search needs) (λ c κs. search needs)
+    (λ c. search needs) (λ c. search needs) loop-again returns returns-2)

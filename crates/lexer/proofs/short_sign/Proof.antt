@@ -76,9 +76,21 @@ unfolding symbolIn spellings begins bytes
 returns-17 c = short-at _ 46 _ (c .match .keys17) refl
 
 returns-18 : tie.Need-returns-18
-returns-18 c = short-none _ (c .match .rest .0 .0 .0 .0 .0 .0 .0 .0 .0 .0 .0 .0 .0 .0 .0 .0 .1) (c .match .rest .0 .0 .0 .0 .0 .0 .0 .0 .0 .0 .0 .0 .0 .0 .0 .1) (c .match .rest .0 .0 .0 .0 .0 .0 .0 .0 .0 .0 .0 .0 .0 .0 .1) (c .match .rest .0 .0 .0 .0 .0 .0 .0 .0 .0 .0 .0 .0 .0 .1) (c .match .rest .0 .0 .0 .0 .0 .0 .0 .0 .0 .0 .0 .0 .1) (c .match .rest .0 .0 .0 .0 .0 .0 .0 .0 .0 .0 .0 .1) (c .match .rest .0 .0 .0 .0 .0 .0 .0 .0 .0 .0 .1) (c .match .rest .0 .0 .0 .0 .0 .0 .0 .0 .0 .1) (c .match .rest .0 .0 .0 .0 .0 .0 .0 .0 .1) (c .match .rest .0 .0 .0 .0 .0 .0 .0 .1) (c .match .rest .0 .0 .0 .0 .0 .0 .1) (c .match .rest .0 .0 .0 .0 .0 .1) (c .match .rest .0 .0 .0 .0 .1) (c .match .rest .0 .0 .0 .1) (c .match .rest .0 .0 .1) (c .match .rest .0 .1) (c .match .rest .1)
+returns-18 c =
+    let match-rest-0-0-0-0 = c .match .rest .0 .0 .0 .0 in
+    short-none _ (match-rest-0-0-0-0 .0 .0 .0 .0 .0 .0 .0 .0 .0 .0 .0 .0 .1)
+    (match-rest-0-0-0-0 .0 .0 .0 .0 .0 .0 .0 .0 .0 .0 .0 .1)
+    (match-rest-0-0-0-0 .0 .0 .0 .0 .0 .0 .0 .0 .0 .0 .1)
+    (match-rest-0-0-0-0 .0 .0 .0 .0 .0 .0 .0 .0 .0 .1)
+    (match-rest-0-0-0-0 .0 .0 .0 .0 .0 .0 .0 .0 .1) (match-rest-0-0-0-0 .0 .0 .0 .0 .0 .0 .0 .1)
+    (match-rest-0-0-0-0 .0 .0 .0 .0 .0 .0 .1) (match-rest-0-0-0-0 .0 .0 .0 .0 .0 .1)
+    (match-rest-0-0-0-0 .0 .0 .0 .0 .1) (match-rest-0-0-0-0 .0 .0 .0 .1)
+    (match-rest-0-0-0-0 .0 .0 .1) (match-rest-0-0-0-0 .0 .1) (match-rest-0-0-0-0 .1)
+    (c .match .rest .0 .0 .0 .1) (c .match .rest .0 .0 .1) (c .match .rest .0 .1)
+    (c .match .rest .1)
 
 pub short-sign-spec : {M : Type 1} → statement M
-short-sign-spec = tie.close (tie.spec
-    returns returns-2 returns-3 returns-4 returns-5 returns-6 returns-7 returns-8 returns-9 returns-10 returns-11 returns-12 returns-13 returns-14
-    returns-15 returns-16 returns-17 returns-18)
+short-sign-spec =
+    tie.close (tie.spec returns returns-2 returns-3 returns-4 returns-5 returns-6 returns-7
+    returns-8 returns-9 returns-10 returns-11 returns-12 returns-13 returns-14 returns-15 returns-16
+    returns-17 returns-18)

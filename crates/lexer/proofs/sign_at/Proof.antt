@@ -11,15 +11,34 @@ use Rattle.lexer.proofs.long_sign.Reads as long-sign-reads
 use Rattle.lexer.proofs.short_sign.Reads as short-sign-reads
 
 returns : tie.Need-returns
-returns c = sign-long (c .before .before .before .before .before .before .before .before .args .text .now) (c .before .before .before .before .before .before .before .before .args .p) (c .before .before .before .before .before .ahead .result) (c .before .before .before .before .ahead2 .result) (c .before .before .before .before .before .ahead .ensures) (c .before .before .before .before .ahead2 .ensures) _ _ _ (c .before .before .before .before .before .before .before .before .pre) (ap signFront (sym (c .before .j .given .1)) ∙ c .before .before .before .long-sign .ensures) refl
+returns c =
+    let b4 = c .before .before .before .before in
+    let start = b4 .before .before .before .before in
+    sign-long (start .args .text .now) (start .args .p) (b4 .before .ahead .result)
+    (b4 .ahead2 .result) (b4 .before .ahead .ensures) (b4 .ahead2 .ensures) _ _ _ (start .pre)
+    (ap signFront (sym (c .before .j .given .1)) ∙ c .before .before .before .long-sign .ensures)
+    refl
 
 returns-2 : tie.Need-returns-2
-returns-2 c = sign-long (c .before .before .before .before .before .before .before .before .args .text .now) (c .before .before .before .before .before .before .before .before .args .p) (c .before .before .before .before .before .ahead .result) (c .before .before .before .before .ahead2 .result) (c .before .before .before .before .before .ahead .ensures) (c .before .before .before .before .ahead2 .ensures) _ _ _ (c .before .before .before .before .before .before .before .before .pre) (ap signFront (sym (c .before .x .given .1)) ∙ c .before .before .before .long-sign .ensures) refl
+returns-2 c =
+    let b4 = c .before .before .before .before in
+    let start = b4 .before .before .before .before in
+    sign-long (start .args .text .now) (start .args .p) (b4 .before .ahead .result)
+    (b4 .ahead2 .result) (b4 .before .ahead .ensures) (b4 .ahead2 .ensures) _ _ _ (start .pre)
+    (ap signFront (sym (c .before .x .given .1)) ∙ c .before .before .before .long-sign .ensures)
+    refl
 
 returns-3 : tie.Need-returns-3
-returns-3 c = sign-short (c .before .before .before .before .before .before .before .before .args .text .now) (c .before .before .before .before .before .before .before .before .args .p) (c .before .before .before .before .before .ahead .result) (c .before .before .before .before .ahead2 .result) (c .before .before .before .before .before .ahead .ensures) (c .before .before .before .before .ahead2 .ensures) (c .short-sign .result) (c .before .before .before .before .before .before .before .before .pre) (ap signFront (sym (c .before .enum-told .given .1)) ∙ c .before .before .before .long-sign .ensures) (c .short-sign .ensures)
+returns-3 c =
+    let b4 = c .before .before .before .before in
+    let start = b4 .before .before .before .before in
+    sign-short (start .args .text .now) (start .args .p) (b4 .before .ahead .result)
+    (b4 .ahead2 .result) (b4 .before .ahead .ensures) (b4 .ahead2 .ensures) (c .short-sign .result)
+    (start .pre) (ap signFront (sym (c .before .enum-told .given .1))
+    ∙ c .before .before .before .long-sign .ensures) (c .short-sign .ensures)
 
 pub sign-at-spec : {M : Type 1} → statement M
-sign-at-spec = tie.close (tie.spec
-    (λ c. search needs) (λ c κs. search needs) (λ c κs. search needs) (λ c κs. search needs) (λ c. search needs) (λ c. search needs)
-    (λ c. search needs) (λ c κs. search needs) returns returns-2 returns-3)
+sign-at-spec =
+    tie.close (tie.spec (λ c. search needs) (λ c κs. search needs) (λ c κs. search needs)
+    (λ c κs. search needs) (λ c. search needs) (λ c. search needs) (λ c. search needs)
+    (λ c κs. search needs) returns returns-2 returns-3)

@@ -21,14 +21,33 @@ loop-holds : tie.Need-loop-holds Inv-loop μ-loop
 loop-holds c = (omega arith, omega arith, refl)
 
 loop-again : tie.Need-loop-again Inv-loop μ-loop
-loop-again c = (omega arith, omega arith, c .before .before .before .before .loop .inv .2 ∙ skip-step (c .before .before .before .before .before .before .args .text .now) (c .before .before .before .before .loop .i) (omega arith) (sym (c .before .is-blank .ensures) ∙ c .if1 .taken))
+loop-again c =
+    let b4 = c .before .before .before .before in
+    let start = b4 .before .before in (
+      omega arith,
+      omega arith,
+      b4 .loop .inv .2
+          ∙ skip-step (start .args .text .now) (b4 .loop .i) (omega arith)
+          (sym (c .before .is-blank .ensures) ∙ c .if1 .taken),
+    )
 
 returns : tie.Need-returns Inv-loop μ-loop
-returns c = record { low = omega arith; high = omega arith; same = c .before .before .before .before .loop .inv .2; stop = λ _. sym (c .before .is-blank .ensures) ∙ c .if1 .left }
+returns c = record {
+  low = omega arith;
+  high = omega arith;
+  same = c .before .before .before .before .loop .inv .2;
+  stop = λ _. sym (c .before .is-blank .ensures) ∙ c .if1 .left;
+}
 
 returns-2 : tie.Need-returns-2 Inv-loop μ-loop
-returns-2 c = record { low = omega arith; high = omega arith; same = c .before .loop .inv .2; stop = λ h. absurd (omega arith) }
+returns-2 c = record {
+  low = omega arith;
+  high = omega arith;
+  same = c .before .loop .inv .2;
+  stop = λ h. absurd (omega arith);
+}
 
 pub skip-spec : {M : Type 1} → statement M
-skip-spec = tie.close (tie.spec
-    Inv-loop μ-loop loop-holds (λ c. search needs) (λ c κs. search needs) (λ c. search needs) (λ c. search needs) loop-again returns returns-2)
+skip-spec =
+    tie.close (tie.spec Inv-loop μ-loop loop-holds (λ c. search needs) (λ c κs. search needs)
+    (λ c. search needs) (λ c. search needs) loop-again returns returns-2)

@@ -9,7 +9,12 @@ use Rattle.lexer.proofs.skip.Reads as skip-reads
 use Rattle.lexer.proofs.token_from.Reads as token-from-reads
 
 returns : tie.Need-returns
-returns c = record { means-it = c .before .skip .ensures .same ∙ c .token-from .ensures .means-it; span = span-from (c .before .before .before .args .text .now) (c .before .before .before .args .at) (c .before .skip .result) (c .token-from .result) (c .before .skip .ensures .low) (c .token-from .ensures .span) }
+returns c = record {
+  means-it = c .before .skip .ensures .same ∙ c .token-from .ensures .means-it;
+  span = span-from (c .before .before .before .args .text .now)
+      (c .before .before .before .args .at) (c .before .skip .result) (c .token-from .result)
+      (c .before .skip .ensures .low) (c .token-from .ensures .span);
+}
 
 pub token-at-spec : {M : Type 1} → statement M
 token-at-spec = tie.close (tie.spec

@@ -13,8 +13,11 @@ fill-requires c κs =
 fill-requires-2 : tie.Need-fill-requires-2
 fill-requires-2 c κs =
     let e-fill = c .before .before .before .fill in
-    let s = c .before .before .before .before .before .before .before .before .before .before in
-    (s .pre .1 .formed, s .pre .1 .definitions-are, let h = e-fill .kept .1 .1 .1 .1 .0 in let k = s .pre .2 in omega arith)
+    let s = c .before .before .before .before .before .before .before .before .before .before in (
+      s .pre .1 .formed,
+      s .pre .1 .definitions-are,
+      let h = e-fill .kept .1 .1 .1 .1 .0 in let k = s .pre .2 in omega arith,
+    )
 
 returns : tie.Need-returns
 returns c =
@@ -22,7 +25,11 @@ returns c =
     let at-e-fill = c .before .before .before .before .before .before in
     let e-fill = at-e-fill .fill in
     let s = at-e-fill .before .before .before .before .before .before .before in
-    prints-both (s .pre .0 .definitions-are) (s .pre .1 .definitions-are) (definitions-fit (s .pre .0)) (let h = e-fill .kept .1 .1 .1 .1 .0 in let k = s .pre .2 in let l = e-fill2 .kept .1 .1 .1 .1 .0 in omega arith) (e-fill .ensures) (e-fill2 .ensures)
+    prints-both (s .pre .0 .definitions-are) (s .pre .1 .definitions-are)
+    (definitions-fit (s .pre .0)) (let h = e-fill .kept .1 .1 .1 .1 .0 in
+    let k = s .pre .2 in
+    let l = e-fill2 .kept .1 .1 .1 .1 .0 in
+    omega arith) (e-fill .ensures) (e-fill2 .ensures)
 
 pub fingerprints-spec : {M : Type 1} → statement M
 fingerprints-spec = tie.close (tie.spec

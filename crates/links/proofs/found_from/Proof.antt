@@ -10,12 +10,16 @@ use Rattle.links.proofs.found_from.Tie as tie
 kind-requires : tie.Need-kind-requires
 kind-requires c κs =
     let s = c .before .before .before .before .before in
-    let h = nodes-fit (s .pre .0 .0) in let k = s .pre .0 .2 in (search needs, s .pre .0 .0 .formed .words-room)
+    let k = s .pre .0 .2 in
+    let h = nodes-fit (s .pre .0 .0) in
+    (search needs, s .pre .0 .0 .formed .words-room)
 
 name-requires : tie.Need-name-requires
 name-requires c κs =
     let s = c .before .before .before .before .before .before .before in
-    let h = nodes-fit (s .pre .0 .0) in let k = s .pre .0 .2 in (search needs, s .pre .0 .0 .formed .words-room)
+    let k = s .pre .0 .2 in
+    let h = nodes-fit (s .pre .0 .0) in
+    (search needs, s .pre .0 .0 .formed .words-room)
 
 find-name-requires : tie.Need-find-name-requires
 find-name-requires c κs =
@@ -29,18 +33,27 @@ returns c =
     let e-if1 = c .before .before .if1 in
     let e-kind = c .before .before .before .kind in
     let s = c .before .before .before .before .before .before .before .before .before in
-    found-own (now (s .args .words)) (now (s .args .bytes)) (now (s .args .others)) (now (s .args .names)) (s .args .second) (s .args .i) (s .pre .0 .2) (e-kind .ensures) (e-if1 .taken) (e-name .ensures) (e-find-name .ensures)
+    found-own (now (s .args .words)) (now (s .args .bytes)) (now (s .args .others))
+    (now (s .args .names)) (s .args .second) (s .args .i) (s .pre .0 .2) (e-kind .ensures)
+    (e-if1 .taken) (e-name .ensures) (e-find-name .ensures)
 
 name-requires-2 : tie.Need-name-requires-2
 name-requires-2 c κs =
     let s = c .before .before .before .before .before .before .before .before in
-    let h = nodes-fit (s .pre .0 .0) in let k = s .pre .0 .2 in (search needs, s .pre .0 .0 .formed .words-room)
+    let k = s .pre .0 .2 in
+    let h = nodes-fit (s .pre .0 .0) in
+    (search needs, s .pre .0 .0 .formed .words-room)
 
 find-name-requires-2 : tie.Need-find-name-requires-2
 find-name-requires-2 c κs =
     let e-opposite = c .opposite in
-    let s = c .before .before .before .before .before .before .before .before .before .before in
-    (s .pre .0 .1 .formed, s .pre .0 .1 .definitions-are, subst (λ (t : Bool). Printed t (now (s .args .others)) (now (s .args .names)) (now (s .args .prints))) (sym (e-opposite .ensures)) (s .pre .1 .1), s .pre .1 .2)
+    let s = c .before .before .before .before .before .before .before .before .before .before in (
+      s .pre .0 .1 .formed,
+      s .pre .0 .1 .definitions-are,
+      subst (λ (t : Bool). Printed t (now (s .args .others)) (now (s .args .names))
+          (now (s .args .prints))) (sym (e-opposite .ensures)) (s .pre .1 .1),
+      s .pre .1 .2,
+    )
 
 returns-2 : tie.Need-returns-2
 returns-2 c =
@@ -51,7 +64,9 @@ returns-2 c =
     let at-e-kind = c .before .before .before .before .before in
     let e-kind = at-e-kind .kind in
     let s = at-e-kind .before .before .before .before .before .before in
-    found-other (now (s .args .words)) (now (s .args .bytes)) (now (s .args .others)) (now (s .args .names)) (s .args .second) (s .args .i) (s .pre .0 .2) (e-kind .ensures) (e-if2 .taken) (e-name2 .ensures) (e-opposite .ensures) (e-find-name2 .ensures)
+    found-other (now (s .args .words)) (now (s .args .bytes)) (now (s .args .others))
+    (now (s .args .names)) (s .args .second) (s .args .i) (s .pre .0 .2) (e-kind .ensures)
+    (e-if2 .taken) (e-name2 .ensures) (e-opposite .ensures) (e-find-name2 .ensures)
 
 returns-3 : tie.Need-returns-3
 returns-3 c =
@@ -59,8 +74,11 @@ returns-3 c =
     let e-if1 = c .before .if1 in
     let e-kind = c .before .before .kind in
     let s = c .before .before .before .before .before .before .before .before in
-    found-none (now (s .args .words)) (now (s .args .bytes)) (now (s .args .others)) (now (s .args .names)) (s .args .second) (s .args .i) (s .pre .0 .2) (e-kind .ensures) (e-if1 .left) (e-if2 .left)
+    found-none (now (s .args .words)) (now (s .args .bytes)) (now (s .args .others))
+    (now (s .args .names)) (s .args .second) (s .args .i) (s .pre .0 .2) (e-kind .ensures)
+    (e-if1 .left) (e-if2 .left)
 
 pub found-from-spec : {M : Type 1} → statement M
-found-from-spec = tie.close (tie.spec
-    kind-requires name-requires find-name-requires returns name-requires-2 (λ c κs. search needs) find-name-requires-2 returns-2 returns-3)
+found-from-spec =
+    tie.close (tie.spec kind-requires name-requires find-name-requires returns name-requires-2
+    (λ c κs. search needs) find-name-requires-2 returns-2 returns-3)

@@ -7,20 +7,67 @@ use Rattle.links.proofs.led_to.Statement.{statement}
 use Rattle.links.proofs.led_to.Tie as tie
 
 kind-of-requires : tie.Need-kind-of-requires
-kind-of-requires c κs = (stands-small (now (c .before .before .before .args .v)) (now (c .before .before .before .args .w)) (c .before .before .before .args .x) (c .before .before .before .pre .2), c .before .before .before .pre .0 .words-room, c .before .before .before .pre .1 .words-room)
+kind-of-requires c κs =
+    let start = c .before .before .before in (
+      stands-small (now (start .args .v)) (now (start .args .w)) (start .args .x) (start .pre .2),
+      start .pre .0 .words-room,
+      start .pre .1 .words-room,
+    )
 
 sub-result : tie.Need-sub-result
-sub-result c = let h = to-some (now (c .before .before .before .before .before .before .before .args .v)) [] (now (c .before .before .before .before .before .before .before .args .w)) [] (c .before .before .before .before .before .before .before .args .x) (c .before .before .before .before .before .before .before .pre .2) (c .before .before .before .kind-of .ensures) (c .before .before .is-reference .ensures) (now (c .before .before .before .before .before .before .before .args .target)) (c .before .before .before .before .before .before .before .args .i) (c .before .if1 .taken) (c .before .before .before .before .before .before .before .pre .4 [] []) .0 in search needs
+sub-result c =
+    let b2 = c .before .before in
+    let start = b2 .before .before .before .before .before in
+    let h = to-some (now (start .args .v)) [] (now (start .args .w)) [] (start .args .x)
+    (start .pre .2) (b2 .before .kind-of .ensures) (b2 .is-reference .ensures)
+    (now (start .args .target)) (start .args .i) (c .before .if1 .taken) (start .pre .4 [] []) .0 in
+    search needs
 
 returns : tie.Need-returns
-returns c = (λ b d. to-target (now (c .before .before .before .before .before .before .before .args .v)) b (now (c .before .before .before .before .before .before .before .args .w)) d (c .before .before .before .before .before .before .before .args .x) (c .before .before .before .before .before .before .before .pre .2) (c .before .before .before .kind-of .ensures) (c .before .before .is-reference .ensures) (now (c .before .before .before .before .before .before .before .args .target)) (c .before .before .before .before .before .before .before .args .i) (c .before .if1 .taken) (c .before .before .before .before .before .before .before .pre .4 b d), let k = to-some (now (c .before .before .before .before .before .before .before .args .v)) [] (now (c .before .before .before .before .before .before .before .args .w)) [] (c .before .before .before .before .before .before .before .args .x) (c .before .before .before .before .before .before .before .pre .2) (c .before .before .before .kind-of .ensures) (c .before .before .is-reference .ensures) (now (c .before .before .before .before .before .before .before .args .target)) (c .before .before .before .before .before .before .before .args .i) (c .before .if1 .taken) (c .before .before .before .before .before .before .before .pre .4 [] []) in search needs)
+returns c =
+    let b2 = c .before .before in
+    let start = b2 .before .before .before .before .before in
+    let args = start .args in (
+      λ b d. to-target (now (args .v)) b (now (args .w)) d (args .x) (start .pre .2)
+          (b2 .before .kind-of .ensures) (b2 .is-reference .ensures) (now (args .target)) (args .i)
+          (c .before .if1 .taken) (start .pre .4 b d),
+      let k = to-some (now (args .v)) [] (now (args .w)) [] (args .x) (start .pre .2)
+          (b2 .before .kind-of .ensures) (b2 .is-reference .ensures) (now (args .target)) (args .i)
+          (c .before .if1 .taken) (start .pre .4 [] []) in
+          search needs,
+    )
 
 operand-of-requires : tie.Need-operand-of-requires
-operand-of-requires c κs = (stands-small (now (c .before .before .before .before .before .before .args .v)) (now (c .before .before .before .before .before .before .args .w)) (c .before .before .before .before .before .before .args .x) (c .before .before .before .before .before .before .pre .2), to-few (now (c .before .before .before .before .before .before .args .v)) [] (now (c .before .before .before .before .before .before .args .w)) [] (c .before .before .before .before .before .before .args .x) (c .before .before .before .before .before .before .pre .2) (c .before .before .kind-of .ensures) (c .before .is-reference .ensures) (now (c .before .before .before .before .before .before .args .target)) (c .before .before .before .before .before .before .args .i) (c .if1 .left) (c .before .before .before .before .before .before .pre .4 [] []), c .before .before .before .before .before .before .pre .0 .words-room, c .before .before .before .before .before .before .pre .1 .words-room, to-below (now (c .before .before .before .before .before .before .args .v)) [] (now (c .before .before .before .before .before .before .args .w)) [] (c .before .before .before .before .before .before .args .x) (c .before .before .before .before .before .before .pre .2) (c .before .before .kind-of .ensures) (c .before .is-reference .ensures) (now (c .before .before .before .before .before .before .args .target)) (c .before .before .before .before .before .before .args .i) (c .if1 .left) (c .before .before .before .before .before .before .pre .4 [] []) (c .before .before .before .before .before .before .pre .1))
+operand-of-requires c κs =
+    let b2 = c .before .before in
+    let args = b2 .before .before .before .before .args in
+    let pre = b2 .before .before .before .before .pre in (
+      stands-small (now (args .v)) (now (args .w)) (args .x) (pre .2),
+      to-few (now (args .v)) [] (now (args .w)) [] (args .x) (pre .2) (b2 .kind-of .ensures)
+          (c .before .is-reference .ensures) (now (args .target)) (args .i) (c .if1 .left)
+          (pre .4 [] []),
+      pre .0 .words-room,
+      pre .1 .words-room,
+      to-below (now (args .v)) [] (now (args .w)) [] (args .x) (pre .2) (b2 .kind-of .ensures)
+          (c .before .is-reference .ensures) (now (args .target)) (args .i) (c .if1 .left)
+          (pre .4 [] []) (pre .1),
+    )
 
 returns-2 : tie.Need-returns-2
-returns-2 c = (λ b d. to-operand (now (c .before .before .before .before .before .before .before .args .v)) b (now (c .before .before .before .before .before .before .before .args .w)) d (c .before .before .before .before .before .before .before .args .x) (c .before .before .before .before .before .before .before .pre .2) (c .before .before .before .kind-of .ensures) (c .before .before .is-reference .ensures) (now (c .before .before .before .before .before .before .before .args .target)) (c .before .before .before .before .before .before .before .args .i) (c .before .if1 .left) (c .before .before .before .before .before .before .before .pre .4 b d) (c .operand-of .ensures), to-small (now (c .before .before .before .before .before .before .before .args .v)) [] (now (c .before .before .before .before .before .before .before .args .w)) [] (c .before .before .before .before .before .before .before .args .x) (c .before .before .before .before .before .before .before .pre .2) (c .before .before .before .kind-of .ensures) (c .before .before .is-reference .ensures) (now (c .before .before .before .before .before .before .before .args .target)) (c .before .before .before .before .before .before .before .args .i) (c .before .if1 .left) (c .before .before .before .before .before .before .before .pre .4 [] []) (c .before .before .before .before .before .before .before .pre .0) (c .before .before .before .before .before .before .before .pre .1) (c .operand-of .ensures))
+returns-2 c =
+    let b2 = c .before .before in
+    let start = b2 .before .before .before .before .before in
+    let args = start .args in
+    let pre = start .pre in (
+      λ b d. to-operand (now (args .v)) b (now (args .w)) d (args .x) (pre .2)
+          (b2 .before .kind-of .ensures) (b2 .is-reference .ensures) (now (args .target)) (args .i)
+          (c .before .if1 .left) (pre .4 b d) (c .operand-of .ensures),
+      to-small (now (args .v)) [] (now (args .w)) [] (args .x) (pre .2)
+          (b2 .before .kind-of .ensures) (b2 .is-reference .ensures) (now (args .target)) (args .i)
+          (c .before .if1 .left) (pre .4 [] []) (pre .0) (pre .1) (c .operand-of .ensures),
+    )
 
 pub led-to-spec : {M : Type 1} → statement M
-led-to-spec = tie.close (tie.spec
-    kind-of-requires (λ c κs. search needs) (λ c. search needs) (λ c. search needs) sub-result returns operand-of-requires returns-2)
+led-to-spec =
+    tie.close (tie.spec kind-of-requires (λ c κs. search needs) (λ c. search needs)
+    (λ c. search needs) sub-result returns operand-of-requires returns-2)

@@ -6,13 +6,17 @@ use Rattle.links.proofs.refers.Tie as tie
 
 kind-of-requires : tie.Need-kind-of-requires
 kind-of-requires c κs =
-    let s = c .before .before in
-    (stands-small (now (s .args .v)) (now (s .args .w)) (s .args .x) (s .pre .2), s .pre .0 .words-room, s .pre .1 .words-room)
+    let s = c .before .before in (
+      stands-small (now (s .args .v)) (now (s .args .w)) (s .args .x) (s .pre .2),
+      s .pre .0 .words-room,
+      s .pre .1 .words-room,
+    )
 
 returns : tie.Need-returns
 returns c =
     let s = c .before .before .before .before in
-    λ b d. ref-test (now (s .args .v)) b (now (s .args .w)) d (s .args .x) (s .pre .2) (c .before .kind-of .ensures) (c .is-reference .ensures)
+    λ b d. ref-test (now (s .args .v)) b (now (s .args .w)) d (s .args .x) (s .pre .2)
+    (c .before .kind-of .ensures) (c .is-reference .ensures)
 
 pub refers-spec : {M : Type 1} → statement M
 refers-spec = tie.close (tie.spec

@@ -9,7 +9,8 @@ use Rattle.logic.proofs.conditional.Tie as tie
 returns : tie.Need-returns
 returns c =
     let s = c .before .before in
-    c .in-row .ensures ∙ ap (row (s .args .b) Undefined (s .args .a) Error) (c .before .truth-of .ensures)
+    c .in-row .ensures
+    ∙ ap (row (s .args .b) Undefined (s .args .a) Error) (c .before .truth-of .ensures)
 
 pub conditional-spec : {M : Type 1} → statement M
 conditional-spec = tie.close (tie.spec

@@ -11,9 +11,13 @@ returns-2 : tie.Need-returns-2
 returns-2 c =
     let d = c .before .before in
     let t = d .before .before in
-    let p = t .before .before .before .before .pre in
-    (λ G ta fl ls a. rw (d .enter .ensures) (begin-enter a _ ta _ fl ls (p .1) (p .2) (λ e. t .if1 .left (t .before .read .ensures ∙ e))), refl)
+    let p = t .before .before .before .before .pre in (
+      λ G ta fl ls a. rw (d .enter .ensures) (begin-enter a _ ta _ fl ls (p .1) (p .2)
+          (λ e. t .if1 .left (t .before .read .ensures ∙ e))),
+      refl,
+    )
 
 pub begin-spec : {M : Type 1} → statement M
-begin-spec = tie.close (tie.spec
-    (λ c κs. search needs) (λ c. search needs) (λ c. search needs) returns (λ c κs. search needs) (λ c. search needs) returns-2)
+begin-spec =
+    tie.close (tie.spec (λ c κs. search needs) (λ c. search needs) (λ c. search needs) returns
+    (λ c κs. search needs) (λ c. search needs) returns-2)

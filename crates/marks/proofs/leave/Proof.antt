@@ -5,9 +5,12 @@ use Rattle.marks.proofs.leave.Tie as tie
 
 returns : tie.Need-returns
 returns c =
-    let h = c .before .before .before .pre .2 in
-    (λ G ta ma fl a. leave-lists a _ _ _ (c .before .back-from .ensures) (c .entry .ensures) h, grows-one _ _ _ h)
+    let h = c .before .before .before .pre .2 in (
+      λ G ta ma fl a. leave-lists a _ _ _ (c .before .back-from .ensures) (c .entry .ensures) h,
+      grows-one _ _ _ h,
+    )
 
 pub leave-spec : {M : Type 1} → statement M
-leave-spec = tie.close (tie.spec
-    (λ c κs. search needs) (λ c κs. search needs) (λ c. search needs) (λ c. search needs) (λ c. search needs) (λ c. search needs) returns)
+leave-spec =
+    tie.close (tie.spec (λ c κs. search needs) (λ c κs. search needs) (λ c. search needs)
+    (λ c. search needs) (λ c. search needs) (λ c. search needs) returns)

@@ -19,8 +19,14 @@ returns c =
     let at-e-worth = at-e-worth3 .before .before .before .before in
     let e-worth = at-e-worth .worth in
     let s = at-e-worth .before .before in
-    finished-by (s .args .steps) (s .args .count) (e-both .ensures) (e-is-true .ensures ∙ ap isTrue (e-worth .ensures)) (e-is-true2 .ensures ∙ ap isTrue (e-worth2 .ensures)) (e-rank-of .ensures ∙ ap rankOf (e-worth3 .ensures)) (e-rank-of2 .ensures ∙ ap rankOf (e-worth4 .ensures))
+    finished-by (s .args .steps) (s .args .count) (e-both .ensures)
+    (e-is-true .ensures ∙ ap isTrue (e-worth .ensures))
+    (e-is-true2 .ensures ∙ ap isTrue (e-worth2 .ensures))
+    (e-rank-of .ensures ∙ ap rankOf (e-worth3 .ensures))
+    (e-rank-of2 .ensures ∙ ap rankOf (e-worth4 .ensures))
 
 pub conclude-spec : {M : Type 1} → statement M
-conclude-spec = tie.close (tie.spec
-    (λ c κs. search needs) (λ c κs. search needs) (λ c κs. search needs) (λ c κs. search needs) (λ c κs. search needs) (λ c κs. search needs) (λ c κs. search needs) (λ c κs. search needs) (λ c κs. search needs) returns)
+conclude-spec =
+    tie.close (tie.spec (λ c κs. search needs) (λ c κs. search needs) (λ c κs. search needs)
+    (λ c κs. search needs) (λ c κs. search needs) (λ c κs. search needs) (λ c κs. search needs)
+    (λ c κs. search needs) (λ c κs. search needs) returns)

@@ -8,20 +8,35 @@ use Rattle.matching.proofs.match_marked.Tie as tie
 
 run-requires : tie.Need-run-requires
 run-requires c κs =
-    let at-e-traverse = c .before .before .before .before .before .before .before .before .before .before in
+    let at-e-traverse =
+    c .before .before .before .before .before .before .before .before .before .before in
     let e-traverse = at-e-traverse .traverse in
-    let s = at-e-traverse .before .before .before .before .before .before .before .before .before .before .before .before in
-    let h = s .pre .0 .target-room in let k = s .pre .0 .flag-room in let x = e-traverse .kept .1 .1 .1 .1 .0 in let y = e-traverse .kept .1 .1 .1 .1 .1 .0 in at-run (now (s .args .v)) (now (s .args .b)) (now (s .args .w)) (now (s .args .c)) (s .pre .0 .first-formed) (s .pre .0 .second-formed) (e-traverse .ensures .0) (omega arith) (omega arith) (clear-long (s .pre .1 .1))
+    let x = e-traverse .kept .1 .1 .1 .1 .0 in
+    let y = e-traverse .kept .1 .1 .1 .1 .1 .0 in
+    let s = at-e-traverse .before .before .before .before .before .before .before .before .before
+    .before .before .before in
+    let h = s .pre .0 .target-room in
+    let k = s .pre .0 .flag-room in
+    at-run (now (s .args .v)) (now (s .args .b)) (now (s .args .w)) (now (s .args .c))
+    (s .pre .0 .first-formed) (s .pre .0 .second-formed) (e-traverse .ensures .0) (omega arith)
+    (omega arith) (clear-long (s .pre .1 .1))
 
 returns : tie.Need-returns
 returns c =
     let e-if1 = c .if1 in
     let at-e-run = c .before .before .before .before in
     let e-run = at-e-run .run in
-    let at-e-traverse = at-e-run .before .before .before .before .before .before .before .before .before .before .before in
+    let at-e-traverse = at-e-run .before .before .before .before .before .before .before .before
+    .before .before .before in
     let e-traverse = at-e-traverse .traverse in
-    let s = at-e-traverse .before .before .before .before .before .before .before .before .before .before .before .before in
-    match-of (now (s .args .v)) (now (s .args .b)) (now (s .args .w)) (now (s .args .c)) (s .pre .0 .first-formed) (s .pre .0 .second-formed) (e-traverse .ensures .0) (s .pre .1 .1) (e-run .ensures) (let h = s .pre .1 .0 in let k = e-traverse .kept .1 .1 .1 .1 .1 .1 .0 in omega arith) (e-traverse .ensures .1) (λ h. refl) (λ h. absurd (let k = e-if1 .taken in omega arith))
+    let s = at-e-traverse .before .before .before .before .before .before .before .before .before
+    .before .before .before in
+    match-of (now (s .args .v)) (now (s .args .b)) (now (s .args .w)) (now (s .args .c))
+    (s .pre .0 .first-formed) (s .pre .0 .second-formed) (e-traverse .ensures .0) (s .pre .1 .1)
+    (e-run .ensures) (let h = s .pre .1 .0 in
+    let k = e-traverse .kept .1 .1 .1 .1 .1 .1 .0 in
+    omega arith) (e-traverse .ensures .1) (λ h. refl)
+    (λ h. absurd (let k = e-if1 .taken in omega arith))
 
 returns-2 : tie.Need-returns-2
 returns-2 c =
@@ -29,11 +44,20 @@ returns-2 c =
     let e-if1 = c .before .before .before .if1 in
     let at-e-run = c .before .before .before .before .before .before .before in
     let e-run = at-e-run .run in
-    let at-e-traverse = at-e-run .before .before .before .before .before .before .before .before .before .before .before in
+    let at-e-traverse = at-e-run .before .before .before .before .before .before .before .before
+    .before .before .before in
     let e-traverse = at-e-traverse .traverse in
-    let s = at-e-traverse .before .before .before .before .before .before .before .before .before .before .before .before in
-    match-of (now (s .args .v)) (now (s .args .b)) (now (s .args .w)) (now (s .args .c)) (s .pre .0 .first-formed) (s .pre .0 .second-formed) (e-traverse .ensures .0) (s .pre .1 .1) (e-run .ensures) (let h = s .pre .1 .0 in let k = e-traverse .kept .1 .1 .1 .1 .1 .1 .0 in omega arith) (e-traverse .ensures .1) (λ h. absurd (let k = e-if1 .left in omega arith)) (λ h. e-conclude .ensures)
+    let s = at-e-traverse .before .before .before .before .before .before .before .before .before
+    .before .before .before in
+    match-of (now (s .args .v)) (now (s .args .b)) (now (s .args .w)) (now (s .args .c))
+    (s .pre .0 .first-formed) (s .pre .0 .second-formed) (e-traverse .ensures .0) (s .pre .1 .1)
+    (e-run .ensures) (let h = s .pre .1 .0 in
+    let k = e-traverse .kept .1 .1 .1 .1 .1 .1 .0 in
+    omega arith) (e-traverse .ensures .1) (λ h. absurd (let k = e-if1 .left in omega arith))
+    (λ h. e-conclude .ensures)
 
 pub match-marked-spec : {M : Type 1} → statement M
-match-marked-spec = tie.close (tie.spec
-    (λ c κs. search needs) run-requires (λ c. search needs) (λ c. search needs) (λ c. search needs) (λ c. search needs) returns (λ c κs. search needs) (λ c. search needs) (λ c. search needs) (λ c. search needs) (λ c. search needs) returns-2)
+match-marked-spec =
+    tie.close (tie.spec (λ c κs. search needs) run-requires (λ c. search needs) (λ c. search needs)
+    (λ c. search needs) (λ c. search needs) returns (λ c κs. search needs) (λ c. search needs)
+    (λ c. search needs) (λ c. search needs) (λ c. search needs) returns-2)

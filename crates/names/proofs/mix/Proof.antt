@@ -11,4 +11,6 @@ unfolding mixed
 returns c = (ap (λ (u : ℕ). (c .before .args .h * 31 + u) % 65536) (c .lower .ensures), omega arith)
 
 pub mix-spec : {M : Type 1} → statement M
-mix-spec = tie.close (tie.spec (λ c. search needs) (λ c κs. search needs) (λ c. search needs) (λ c. search needs) returns)
+mix-spec =
+    tie.close (tie.spec (λ c. search needs) (λ c κs. search needs) (λ c. search needs)
+    (λ c. search needs) returns)

@@ -22,8 +22,18 @@ returns-5 : tie.Need-returns-5
 returns-5 c = rw (c .match .keys5)
 
 returns-6 : tie.Need-returns-6
-returns-6 c = let n = c .match .rest in let k = c .before .args .kind in rw (ne-eqb k 2 (n .0 .0 .0 .0 .1), ne-eqb k 3 (n .0 .0 .0 .1), ne-eqb k 4 (n .0 .0 .1), ne-eqb k 5 (n .0 .1), ne-eqb k 6 (n .1))
+returns-6 c =
+    let n = c .match .rest in
+    let k = c .before .args .kind in
+    rw (
+      ne-eqb k 2 (n .0 .0 .0 .0 .1),
+      ne-eqb k 3 (n .0 .0 .0 .1),
+      ne-eqb k 4 (n .0 .0 .1),
+      ne-eqb k 5 (n .0 .1),
+      ne-eqb k 6 (n .1),
+    )
 
 pub constant-of-spec : {M : Type 1} → statement M
-constant-of-spec = tie.close (tie.spec
-    (λ c. search needs) (λ c κs. search needs) (λ c. search needs) (λ c. search needs) returns returns-2 returns-3 returns-4 returns-5 returns-6)
+constant-of-spec =
+    tie.close (tie.spec (λ c. search needs) (λ c κs. search needs) (λ c. search needs)
+    (λ c. search needs) returns returns-2 returns-3 returns-4 returns-5 returns-6)

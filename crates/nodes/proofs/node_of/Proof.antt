@@ -70,9 +70,35 @@ returns-21 : tie.Need-returns-21
 returns-21 c = rw (c .match .keys21)
 
 returns-22 : tie.Need-returns-22
-returns-22 c = let n = c .before .match .rest in let k = c .before .before .args .kind in rw (ne-eqb k 7 (n .0 .0 .0 .0 .0 .0 .0 .0 .0 .0 .0 .0 .0 .0 .0 .0 .0 .0 .0 .0 .1), ne-eqb k 8 (n .0 .0 .0 .0 .0 .0 .0 .0 .0 .0 .0 .0 .0 .0 .0 .0 .0 .0 .0 .1), ne-eqb k 9 (n .0 .0 .0 .0 .0 .0 .0 .0 .0 .0 .0 .0 .0 .0 .0 .0 .0 .0 .1), ne-eqb k 10 (n .0 .0 .0 .0 .0 .0 .0 .0 .0 .0 .0 .0 .0 .0 .0 .0 .0 .1), ne-eqb k 11 (n .0 .0 .0 .0 .0 .0 .0 .0 .0 .0 .0 .0 .0 .0 .0 .0 .1), ne-eqb k 12 (n .0 .0 .0 .0 .0 .0 .0 .0 .0 .0 .0 .0 .0 .0 .0 .1), ne-eqb k 13 (n .0 .0 .0 .0 .0 .0 .0 .0 .0 .0 .0 .0 .0 .0 .1), ne-eqb k 14 (n .0 .0 .0 .0 .0 .0 .0 .0 .0 .0 .0 .0 .0 .1), ne-eqb k 15 (n .0 .0 .0 .0 .0 .0 .0 .0 .0 .0 .0 .0 .1), ne-eqb k 16 (n .0 .0 .0 .0 .0 .0 .0 .0 .0 .0 .0 .1), ne-eqb k 17 (n .0 .0 .0 .0 .0 .0 .0 .0 .0 .0 .1), ne-eqb k 18 (n .0 .0 .0 .0 .0 .0 .0 .0 .0 .1), ne-eqb k 19 (n .0 .0 .0 .0 .0 .0 .0 .0 .1), ne-eqb k 20 (n .0 .0 .0 .0 .0 .0 .0 .1), ne-eqb k 21 (n .0 .0 .0 .0 .0 .0 .1), ne-eqb k 22 (n .0 .0 .0 .0 .0 .1), ne-eqb k 23 (n .0 .0 .0 .0 .1), ne-eqb k 24 (n .0 .0 .0 .1), ne-eqb k 25 (n .0 .0 .1), ne-eqb k 26 (n .0 .1), ne-eqb k 27 (n .1)) (ap (λ (v : Value). Constant v) (c .constant-of .ensures))
+returns-22 c =
+    let n = c .before .match .rest in
+    let k = c .before .before .args .kind in
+    rw (
+      ne-eqb k 7 (n .0 .0 .0 .0 .0 .0 .0 .0 .0 .0 .0 .0 .0 .0 .0 .0 .0 .0 .0 .0 .1),
+      ne-eqb k 8 (n .0 .0 .0 .0 .0 .0 .0 .0 .0 .0 .0 .0 .0 .0 .0 .0 .0 .0 .0 .1),
+      ne-eqb k 9 (n .0 .0 .0 .0 .0 .0 .0 .0 .0 .0 .0 .0 .0 .0 .0 .0 .0 .0 .1),
+      ne-eqb k 10 (n .0 .0 .0 .0 .0 .0 .0 .0 .0 .0 .0 .0 .0 .0 .0 .0 .0 .1),
+      ne-eqb k 11 (n .0 .0 .0 .0 .0 .0 .0 .0 .0 .0 .0 .0 .0 .0 .0 .0 .1),
+      ne-eqb k 12 (n .0 .0 .0 .0 .0 .0 .0 .0 .0 .0 .0 .0 .0 .0 .0 .1),
+      ne-eqb k 13 (n .0 .0 .0 .0 .0 .0 .0 .0 .0 .0 .0 .0 .0 .0 .1),
+      ne-eqb k 14 (n .0 .0 .0 .0 .0 .0 .0 .0 .0 .0 .0 .0 .0 .1),
+      ne-eqb k 15 (n .0 .0 .0 .0 .0 .0 .0 .0 .0 .0 .0 .0 .1),
+      ne-eqb k 16 (n .0 .0 .0 .0 .0 .0 .0 .0 .0 .0 .0 .1),
+      ne-eqb k 17 (n .0 .0 .0 .0 .0 .0 .0 .0 .0 .0 .1),
+      ne-eqb k 18 (n .0 .0 .0 .0 .0 .0 .0 .0 .0 .1),
+      ne-eqb k 19 (n .0 .0 .0 .0 .0 .0 .0 .0 .1),
+      ne-eqb k 20 (n .0 .0 .0 .0 .0 .0 .0 .1),
+      ne-eqb k 21 (n .0 .0 .0 .0 .0 .0 .1),
+      ne-eqb k 22 (n .0 .0 .0 .0 .0 .1),
+      ne-eqb k 23 (n .0 .0 .0 .0 .1),
+      ne-eqb k 24 (n .0 .0 .0 .1),
+      ne-eqb k 25 (n .0 .0 .1),
+      ne-eqb k 26 (n .0 .1),
+      ne-eqb k 27 (n .1),
+    ) (ap (λ (v : Value). Constant v) (c .constant-of .ensures))
 
 pub node-of-spec : {M : Type 1} → statement M
-node-of-spec = tie.close (tie.spec
-    (λ c κs. search needs) returns returns-2 returns-3 returns-4 returns-5 returns-6 returns-7 returns-8 returns-9 returns-10 returns-11 returns-12
-    returns-13 returns-14 returns-15 returns-16 returns-17 returns-18 returns-19 returns-20 returns-21 returns-22)
+node-of-spec =
+    tie.close (tie.spec (λ c κs. search needs) returns returns-2 returns-3 returns-4 returns-5
+    returns-6 returns-7 returns-8 returns-9 returns-10 returns-11 returns-12 returns-13 returns-14
+    returns-15 returns-16 returns-17 returns-18 returns-19 returns-20 returns-21 returns-22)

@@ -10,9 +10,13 @@ returns-4 : tie.Need-returns-4
 returns-4 c = rw (c .before .b .given .1)
 
 returns-5 : tie.Need-returns-5
-returns-5 c = rw (c .before .before .b2 .given .1) (ap (λ (x : Float). Reals x (c .before .before .b2 .given .0 .0)) (c .of-integer .ensures))
+returns-5 c =
+    rw (c .before .before .b2 .given .1)
+    (ap (λ (x : Float). Reals x (c .before .before .b2 .given .0 .0)) (c .of-integer .ensures))
 
 pub with-integer-spec : {M : Type 1} → statement M
-with-integer-spec = tie.close (tie.spec
-    (λ c. search needs) (λ c. search needs) (λ c. search needs) (λ c. search needs) (λ c. search needs) (λ c κs. search needs)
-    (λ c. search needs) (λ c. search needs) (λ c. search needs) (λ c. search needs) returns-4 returns-5 (λ c. search needs))
+with-integer-spec =
+    tie.close (tie.spec (λ c. search needs) (λ c. search needs) (λ c. search needs)
+    (λ c. search needs) (λ c. search needs) (λ c κs. search needs) (λ c. search needs)
+    (λ c. search needs) (λ c. search needs) (λ c. search needs) returns-4 returns-5
+    (λ c. search needs))

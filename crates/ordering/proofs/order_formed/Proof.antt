@@ -16,7 +16,9 @@ traverse-requires c κs =
     let at-e-clear = at-e-clear-words .before .before .before .before in
     let e-clear = at-e-clear .clear in
     let s = at-e-clear .before .before .before .before .before .before .before .before in
-    ready-zeros 2048 (omega arith) (s .pre .0) (s .pre .1) refl (e-clear .ensures ∙ ap (λ (n : ℕ). replicate n 0) (s .pre .2)) (e-clear-words .ensures ∙ ap (λ (n : ℕ). replicate n 0) (s .pre .3))
+    ready-zeros 2048 (omega arith) (s .pre .0) (s .pre .1) refl
+    (e-clear .ensures ∙ ap (λ (n : ℕ). replicate n 0) (s .pre .2))
+    (e-clear-words .ensures ∙ ap (λ (n : ℕ). replicate n 0) (s .pre .3))
 
 returns : tie.Need-returns
 returns c =
@@ -24,9 +26,15 @@ returns c =
     let e-traverse = at-e-traverse .traverse in
     let at-e-clear-words = at-e-traverse .before .before .before .before .before .before in
     let e-clear-words = at-e-clear-words .clear-words in
-    let s = at-e-clear-words .before .before .before .before .before .before .before .before .before .before .before .before in
-    orders-of (now (s .args .v)) (now (s .args .b)) (now (s .args .w)) (now (s .args .c)) (let h = s .pre .3 in let k = e-traverse .kept .1 .1 .1 .1 .1 .1 .0 in let l = e-clear-words .kept .0 in omega arith) (e-traverse .ensures .0)
+    let s = at-e-clear-words .before .before .before .before .before .before .before .before
+    .before .before .before .before in
+    orders-of (now (s .args .v)) (now (s .args .b)) (now (s .args .w)) (now (s .args .c)) (let h =
+    s .pre .3 in
+    let k = e-traverse .kept .1 .1 .1 .1 .1 .1 .0 in
+    let l = e-clear-words .kept .0 in
+    omega arith) (e-traverse .ensures .0)
 
 pub order-formed-spec : {M : Type 1} → statement M
-order-formed-spec = tie.close (tie.spec
-    (λ c κs. search needs) (λ c κs. search needs) (λ c. search needs) traverse-requires (λ c. search needs) (λ c. search needs) returns)
+order-formed-spec =
+    tie.close (tie.spec (λ c κs. search needs) (λ c κs. search needs) (λ c. search needs)
+    traverse-requires (λ c. search needs) (λ c. search needs) returns)

@@ -22,12 +22,18 @@ behind-requires : tie.Need-behind-requires Inv-loop μ-loop
 behind-requires c κs = (omega arith, omega arith)
 
 loop-again : tie.Need-loop-again Inv-loop μ-loop
-loop-again c = more _ _ _ _ _ _ _ (c .before .before .loop-test .taken) (c .before .before .before .loop .inv) (c .behind .ensures .0) (c .behind .ensures .1)
+loop-again c =
+    more _ _ _ _ _ _ _ (c .before .before .loop-test .taken) (c .before .before .before .loop .inv)
+    (c .behind .ensures .0) (c .behind .ensures .1)
 
 returns : tie.Need-returns Inv-loop μ-loop
-returns c = done _ _ _ _ _ _ (c .before .before .before .before .least .ensures) (c .before .before .loop-test .left) (c .before .before .before .loop .inv)
+returns c =
+    let b2 = c .before .before in
+    done _ _ _ _ _ _ (b2 .before .before .least .ensures) (b2 .loop-test .left)
+    (b2 .before .loop .inv)
 
 pub locate-spec : {M : Type 1} → statement M
-locate-spec = tie.close (tie.spec
-    Inv-loop μ-loop (λ c κs. search needs) loop-holds shared-slice-read-behind behind-requires (λ c. search needs) (λ c. search needs) loop-again
-    (λ c. search needs) (λ c. search needs) returns)
+locate-spec =
+    tie.close (tie.spec Inv-loop μ-loop (λ c κs. search needs) loop-holds shared-slice-read-behind
+    behind-requires (λ c. search needs) (λ c. search needs) loop-again (λ c. search needs)
+    (λ c. search needs) returns)

@@ -16,13 +16,23 @@ returns : tie.Need-returns
 returns c = binds-leaf (c .before .kind .result) (c .if1 .taken) ∙ ap bindsKind (c .before .kind .ensures)
 
 returns-2 : tie.Need-returns-2
-returns-2 c = binds-unary (c .before .before .kind .result) (c .before .if1 .left) (c .if2 .taken) ∙ ap bindsKind (c .before .before .kind .ensures)
+returns-2 c =
+    binds-unary (c .before .before .kind .result) (c .before .if1 .left) (c .if2 .taken)
+    ∙ ap bindsKind (c .before .before .kind .ensures)
 
 returns-3 : tie.Need-returns-3
-returns-3 c = binds-conditional (c .before .before .before .kind .result) (c .if3 .taken) ∙ ap bindsKind (c .before .before .before .kind .ensures)
+returns-3 c =
+    binds-conditional (c .before .before .before .kind .result) (c .if3 .taken)
+    ∙ ap bindsKind (c .before .before .before .kind .ensures)
 
 returns-4 : tie.Need-returns-4
-returns-4 c = c .binds .ensures ∙ ap bindsOf (c .before .binary-of .ensures) ∙ binds-binary (c .before .before .before .before .before .kind .result) (c .before .before .before .before .if1 .left) (c .before .before .before .if2 .left) (c .before .before .if3 .left) ∙ ap bindsKind (c .before .before .before .before .before .kind .ensures)
+returns-4 c =
+    let b3 = c .before .before .before in
+    c .binds .ensures
+    ∙ ap bindsOf (c .before .binary-of .ensures)
+    ∙ binds-binary (b3 .before .before .kind .result) (b3 .before .if1 .left) (b3 .if2 .left)
+    (c .before .before .if3 .left)
+    ∙ ap bindsKind (b3 .before .before .kind .ensures)
 
 pub binding-spec : {M : Type 1} → statement M
 binding-spec = tie.close (tie.spec

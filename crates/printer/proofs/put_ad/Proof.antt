@@ -14,13 +14,24 @@ use Rattle.writer.proofs.put.Reads as put-reads
 use Rattle.writer.proofs.put_byte.Reads as put-byte-reads
 
 put-definitions-requires : tie.Need-put-definitions-requires
-put-definitions-requires c κs = opened (c .before .before .before .before .before .before .before .before .args .words .now) (c .before .before .before .before .before .before .before .before .args .bytes .now) (c .before .before .before .before .before .before .before .before .args .d) (c .before .before .before .before .before .before .before .before .pre)
+put-definitions-requires c κs =
+    let start = c .before .before .before .before .before .before .before .before in
+    opened (start .args .words .now) (start .args .bytes .now) (start .args .d) (start .pre)
 
 put-requires : tie.Need-put-requires
-put-requires c κs = closing-near (c .before .before .before .before .before .before .before .before .before .before .before .before .before .args .words .now) (c .before .before .before .before .before .before .before .before .before .before .before .before .before .args .bytes .now) (c .before .before .before .before .before .before .before .before .before .before .before .before .before .args .d) _ _ _ (c .before .before .before .before .before .before .before .before .before .before .before .before .before .pre) (c .before .before .before .before .put-definitions .ensures)
+put-requires c κs =
+    let b4 = c .before .before .before .before in
+    let start = b4 .before .before .before .before .before .before .before .before .before in
+    closing-near (start .args .words .now) (start .args .bytes .now) (start .args .d) _ _ _
+    (start .pre) (b4 .put-definitions .ensures)
 
 returns : tie.Need-returns
-returns c = ad-written (c .before .before .before .before .before .before .before .before .before .before .before .before .before .before .before .before .args .words .now) (c .before .before .before .before .before .before .before .before .before .before .before .before .before .before .before .before .args .bytes .now) (c .before .before .before .before .before .before .before .before .before .before .before .before .before .before .before .before .args .d) _ _ _ _ _ _ (c .before .before .before .before .before .before .before .before .before .before .before .put-byte .ensures) (c .before .before .before .before .before .before .before .put-definitions .ensures) (c .before .before .put .ensures)
+returns c =
+    let b7 = c .before .before .before .before .before .before .before in
+    let b11 = b7 .before .before .before .before in
+    let args = b11 .before .before .before .before .before .args in
+    ad-written (args .words .now) (args .bytes .now) (args .d) _ _ _ _ _ _ (b11 .put-byte .ensures)
+    (b7 .put-definitions .ensures) (c .before .before .put .ensures)
 
 pub put-ad-spec : {M : Type 1} → statement M
 put-ad-spec = tie.close (tie.spec

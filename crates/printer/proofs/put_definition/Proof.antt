@@ -20,30 +20,70 @@ use Rattle.printer.proofs.put_tree.Reads as put-tree-reads
 use Rattle.writer.proofs.put.Reads as put-reads
 
 offset-requires : tie.Need-offset-requires
-offset-requires c κs = ((c .before .before .before .pre) .few, (c .before .before .before .pre) .words)
+offset-requires c κs = (c .before .before .before .pre .few, c .before .before .before .pre .words)
 
 name-length-requires : tie.Need-name-length-requires
-name-length-requires c κs = ((c .before .before .before .before .pre) .few, (c .before .before .before .before .pre) .words)
+name-length-requires c κs =
+    let pre = c .before .before .before .before .pre in (pre .few, pre .words)
 
 root-requires : tie.Need-root-requires
-root-requires c κs = ((c .before .before .before .before .before .pre) .few, (c .before .before .before .before .before .pre) .words)
+root-requires c κs =
+    let pre = c .before .before .before .before .before .pre in (pre .few, pre .words)
 
 put-requires : tie.Need-put-requires
-put-requires c κs = rw (c .before .part .ensures ∙ (λ m. bytesAt (c .before .before .before .before .before .before .before .before .args .bytes .now) (c .before .before .before .before .offset .ensures m) (c .before .before .before .name-length .ensures m))) (name-near (c .before .before .before .before .before .before .before .before .args .words .now) (c .before .before .before .before .before .before .before .before .args .bytes .now) (c .before .before .before .before .before .before .before .before .args .j) (c .before .before .before .before .before .before .before .before .args .at) (c .before .before .before .before .before .before .before .before .pre))
+put-requires c κs =
+    let b3 = c .before .before .before in
+    let start = b3 .before .before .before .before .before in
+    rw (c .before .part .ensures
+    ∙ (λ m. bytesAt (start .args .bytes .now) (b3 .before .offset .ensures m)
+    (b3 .name-length .ensures m))) (name-near (start .args .words .now) (start .args .bytes .now)
+    (start .args .j) (start .args .at) (start .pre))
 
 put-requires-2 : tie.Need-put-requires-2
 unfolding bytes
-put-requires-2 c κs = equals-near (c .before .before .before .before .before .before .before .before .before .before .before .before .before .args .words .now) (c .before .before .before .before .before .before .before .before .before .before .before .before .before .args .bytes .now) (c .before .before .before .before .before .before .before .before .before .before .before .before .before .args .j) (c .before .before .before .before .before .before .before .before .before .before .before .before .before .args .at) (c .before .before .before .before .before .before .before .before .before .before .before .before .before .pre) (c .before .before .before .before .put .result) (c .before .before .before .before .put .ensures .behind ∙ ap (λ (l : List ℕ). (c .before .before .before .before .before .before .before .before .before .before .before .before .before .args .at) + length l) (c .before .before .before .before .before .before .part .ensures ∙ (λ m. bytesAt (c .before .before .before .before .before .before .before .before .before .before .before .before .before .args .bytes .now) (c .before .before .before .before .before .before .before .before .before .offset .ensures m) (c .before .before .before .before .before .before .before .before .name-length .ensures m))))
+put-requires-2 c κs =
+    let b4 = c .before .before .before .before in
+    let b8 = b4 .before .before .before .before in
+    let start = b8 .before .before .before .before .before in
+    let args = start .args in
+    equals-near (args .words .now) (args .bytes .now) (args .j) (args .at) (start .pre)
+    (b4 .put .result) (b4 .put .ensures .behind
+    ∙ ap (λ (l : List ℕ). args .at + length l) (b4 .before .before .part .ensures
+    ∙ (λ m. bytesAt (args .bytes .now) (b8 .before .offset .ensures m)
+    (b8 .name-length .ensures m))))
 
 put-tree-requires : tie.Need-put-tree-requires
 unfolding bytes
-put-tree-requires c κs = tree-fits-as (c .before .before .before .before .before .before .before .before .before .before .before .before .before .before .before .before .before .args .words .now) (c .before .before .before .before .before .before .before .before .before .before .before .before .before .before .before .before .before .args .bytes .now) (c .before .before .before .before .before .before .before .before .before .before .before .root .result) (rootAt (c .before .before .before .before .before .before .before .before .before .before .before .before .before .before .before .before .before .args .words .now) (c .before .before .before .before .before .before .before .before .before .before .before .before .before .before .before .before .before .args .j)) (c .before .before .before .put2 .result) (c .before .before .before .before .before .before .before .before .before .before .before .root .ensures) (root-fits (c .before .before .before .before .before .before .before .before .before .before .before .before .before .before .before .before .before .args .words .now) (c .before .before .before .before .before .before .before .before .before .before .before .before .before .before .before .before .before .args .bytes .now) (c .before .before .before .before .before .before .before .before .before .before .before .before .before .before .before .before .before .args .j) (c .before .before .before .before .before .before .before .before .before .before .before .before .before .before .before .before .before .args .at) (c .before .before .before .before .before .before .before .before .before .before .before .before .before .before .before .before .before .pre) (c .before .before .before .before .before .before .before .before .put .result) (c .before .before .before .before .before .before .before .before .put .ensures .behind ∙ ap (λ (l : List ℕ). (c .before .before .before .before .before .before .before .before .before .before .before .before .before .before .before .before .before .args .at) + length l) (c .before .before .before .before .before .before .before .before .before .before .part .ensures ∙ (λ m. bytesAt (c .before .before .before .before .before .before .before .before .before .before .before .before .before .before .before .before .before .args .bytes .now) (c .before .before .before .before .before .before .before .before .before .before .before .before .before .offset .ensures m) (c .before .before .before .before .before .before .before .before .before .before .before .before .name-length .ensures m)))) (c .before .before .before .put2 .result) (c .before .before .before .put2 .ensures .behind))
+put-tree-requires c κs =
+    let b3 = c .before .before .before in
+    let b8 = b3 .before .before .before .before .before in
+    let b11 = b8 .before .before .before in
+    let start = b11 .before .before .before .before .before .before in
+    let args = start .args in
+    tree-fits-as (args .words .now) (args .bytes .now) (b11 .root .result)
+    (rootAt (args .words .now) (args .j)) (b3 .put2 .result) (b11 .root .ensures) (root-fits
+    (args .words .now) (args .bytes .now) (args .j) (args .at) (start .pre) (b8 .put .result)
+    (b8 .put .ensures .behind
+    ∙ ap (λ (l : List ℕ). args .at + length l) (b8 .before .before .part .ensures
+    ∙ (λ m. bytesAt (args .bytes .now) (b11 .before .before .offset .ensures m)
+    (b11 .before .name-length .ensures m)))) (b3 .put2 .result) (b3 .put2 .ensures .behind))
 
 returns : tie.Need-returns
 unfolding bytes
-returns c = row-written (c .before .before .before .before .before .before .before .before .before .before .before .before .before .before .before .before .before .before .before .before .args .words .now) (c .before .before .before .before .before .before .before .before .before .before .before .before .before .before .before .before .before .before .before .before .args .bytes .now) (c .before .before .before .before .before .before .before .before .before .before .before .before .before .before .before .before .before .before .before .before .args .j) (c .before .before .before .before .before .before .before .before .before .before .before .before .before .before .before .before .before .before .before .before .args .at) _ _ _ _ _ _ _ (puts-as (c .before .before .before .before .before .before .before .before .before .before .before .before .before .part .ensures ∙ (λ m. bytesAt (c .before .before .before .before .before .before .before .before .before .before .before .before .before .before .before .before .before .before .before .before .args .bytes .now) (c .before .before .before .before .before .before .before .before .before .before .before .before .before .before .before .before .offset .ensures m) (c .before .before .before .before .before .before .before .before .before .before .before .before .before .before .before .name-length .ensures m))) (c .before .before .before .before .before .before .before .before .before .before .before .put .ensures)) (c .before .before .before .before .before .before .put2 .ensures) (tree-written-as (c .before .before .before .before .before .before .before .before .before .before .before .before .before .before .before .before .before .before .before .before .args .words .now) (c .before .before .before .before .before .before .before .before .before .before .before .before .before .before .before .before .before .before .before .before .args .bytes .now) _ _ (c .before .before .before .before .before .before .before .before .before .before .before .before .before .before .root .result) (rootAt (c .before .before .before .before .before .before .before .before .before .before .before .before .before .before .before .before .before .before .before .before .args .words .now) (c .before .before .before .before .before .before .before .before .before .before .before .before .before .before .before .before .before .before .before .before .args .j)) _ _ (c .before .before .before .before .before .before .before .before .before .before .before .before .before .before .root .ensures) (c .before .before .put-tree .ensures))
+returns c =
+    let b6 = c .before .before .before .before .before .before in
+    let b11 = b6 .before .before .before .before .before in
+    let b14 = b11 .before .before .before in
+    let args = b14 .before .before .before .before .before .before .args in
+    row-written (args .words .now) (args .bytes .now) (args .j) (args .at) _ _ _ _ _ _ _ (puts-as
+    (b11 .before .before .part .ensures
+    ∙ (λ m. bytesAt (args .bytes .now) (b14 .before .before .offset .ensures m)
+    (b14 .before .name-length .ensures m))) (b11 .put .ensures)) (b6 .put2 .ensures)
+    (tree-written-as (args .words .now) (args .bytes .now) _ _ (b14 .root .result)
+    (rootAt (args .words .now) (args .j)) _ _ (b14 .root .ensures)
+    (c .before .before .put-tree .ensures))
 
 pub put-definition-spec : {M : Type 1} → statement M
-put-definition-spec = tie.close (tie.spec
-    offset-requires name-length-requires root-requires (λ c κs. search needs) put-requires (λ c. search needs) put-requires-2 put-tree-requires
-    (λ c. search needs) returns)
+put-definition-spec =
+    tie.close (tie.spec offset-requires name-length-requires root-requires (λ c κs. search needs)
+    put-requires (λ c. search needs) put-requires-2 put-tree-requires (λ c. search needs) returns)

@@ -10,14 +10,28 @@ use Rattle.lookahead.proofs.symbol_at.Reads as symbol-at-reads
 use Rattle.reader.proofs.read_definitions.Reads as read-definitions-reads
 
 read-definitions-requires : tie.Need-read-definitions-requires
-read-definitions-requires c κs = let g = (rw (c .before .before .before .q .given .1) at (c .before .before .before .before .before .symbol-at .ensures)) in omega arith
+read-definitions-requires c κs =
+    let g = (rw (c .before .before .before .q .given .1) at
+    (c .before .before .before .before .before .symbol-at .ensures)) in
+    omega arith
 
 returns : tie.Need-returns
-returns c = ad-none (c .before .before .before .before .before .before .before .args .text .now) (memory (c .before .before .before .before .before .before .before .args .words .now) (c .before .before .before .before .before .before .before .args .bytes .now)) (memory (c .before .before .before .before .before .before .before .args .words .now) (c .before .before .before .before .before .before .before .args .bytes .now)) _ _ (rw (c .before .y .given .1) at (c .before .before .before .symbol-at .ensures))
+returns c =
+    let args = c .before .before .before .before .before .before .before .args in
+    ad-none (args .text .now) (memory (args .words .now) (args .bytes .now))
+    (memory (args .words .now) (args .bytes .now)) _ _
+    (rw (c .before .y .given .1) at (c .before .before .before .symbol-at .ensures))
 
 returns-2 : tie.Need-returns-2
-returns-2 c = ad-read (c .before .before .before .before .before .before .before .before .before .before .before .before .before .before .args .text .now) (memory (c .before .before .before .before .before .before .before .before .before .before .before .before .before .before .args .words .now) (c .before .before .before .before .before .before .before .before .before .before .before .before .before .before .args .bytes .now)) _ _ _ (c .before .before .before .before .read-definitions .result) (rw (c .before .before .before .before .before .before .before .before .q .given .1) at (c .before .before .before .before .before .before .before .before .before .before .symbol-at .ensures)) (c .before .before .before .before .read-definitions .ensures)
+returns-2 c =
+    let b4 = c .before .before .before .before in
+    let b8 = b4 .before .before .before .before in
+    let args = b8 .before .before .before .before .before .before .args in
+    ad-read (args .text .now) (memory (args .words .now) (args .bytes .now)) _ _ _
+    (b4 .read-definitions .result) (rw (b8 .q .given .1) at
+    (b8 .before .before .symbol-at .ensures)) (b4 .read-definitions .ensures)
 
 pub read-ad-spec : {M : Type 1} → statement M
-read-ad-spec = tie.close (tie.spec
-    (λ c κs. search needs) (λ c. search needs) (λ c. search needs) read-definitions-requires returns (λ c. search needs) (λ c. search needs) returns-2)
+read-ad-spec =
+    tie.close (tie.spec (λ c κs. search needs) (λ c. search needs) (λ c. search needs)
+    read-definitions-requires returns (λ c. search needs) (λ c. search needs) returns-2)

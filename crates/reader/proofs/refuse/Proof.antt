@@ -11,4 +11,6 @@ returns : tie.Need-returns
 returns c = search needs
 
 pub refuse-spec : {M : Type 1} → statement M
-refuse-spec = tie.close (tie.spec (λ c κs. search needs) (λ c κs. search needs) (λ c. search needs) (λ c. search needs) returns)
+refuse-spec =
+    tie.close (tie.spec (λ c κs. search needs) (λ c κs. search needs) (λ c. search needs)
+    (λ c. search needs) returns)

@@ -8,7 +8,9 @@ use Rattle.reals.proofs.literal.Statement.{statement}
 use Rattle.reals.proofs.literal.Tie as tie
 
 returns : tie.Need-returns
-returns c = rw (lt-ltb _ (10 ^ 15) (c .before .before .if1 .taken), lt-ltb _ 15 (c .before .if2 .taken)) (c .quotient .ensures)
+returns c =
+    rw (lt-ltb _ (10 ^ 15) (c .before .before .if1 .taken), lt-ltb _ 15 (c .before .if2 .taken))
+    (c .quotient .ensures)
 
 returns-2 : tie.Need-returns-2
 unfolding Ieee.ofInt Ieee.ofBits

@@ -17,7 +17,8 @@ returns-2 : tie.Need-returns-2
 returns-2 c =
     let a = c .before .before .before .args .a in
     let e = high width a (c .before .before .if1 .left) in
-    ap (λ (n : ℕ). neg (ofInt binary64 (pos n))) (c .before .magnitude .ensures ∙ ap natAbs e) ∙ neg-whole binary64 (2 ^ width - suc a)
+    ap (λ (n : ℕ). neg (ofInt binary64 (pos n))) (c .before .magnitude .ensures ∙ ap natAbs e)
+    ∙ neg-whole binary64 (2 ^ width - suc a)
     ∙ sym (ap (ofInt binary64) e)
 
 pub of-integer-spec : {M : Type 1} → statement M

@@ -22,14 +22,18 @@ int-to-float-result-2 : tie.Need-int-to-float-result-2
 unfolding inFloat
 int-to-float-result-2 c =
     let s = c .before .before .before in
-    le→leb (c .before .power-of-ten .result) (2 ^ 53) (rw (c .before .power-of-ten .ensures) (exact (s .args .places) (s .pre .1)))
+    le→leb (c .before .power-of-ten .result) (2 ^ 53)
+    (rw (c .before .power-of-ten .ensures) (exact (s .args .places) (s .pre .1)))
 
 returns : tie.Need-returns
 returns c =
     let s = c .before .before .before in
-    let n = s .args .places in let d = s .args .digits in
-    ap (λ (p : ℕ). div binary64 (ofInt binary64 (pos d)) (ofInt binary64 (pos p))) (c .before .power-of-ten .ensures)
-    ∙ whole-quotient binary64 d (10 ^ n) (let h = s .pre .0 in omega arith) (exact n (s .pre .1)) (one-le-pow n 10 (zero-lt-suc 9))
+    let n = s .args .places in
+    let d = s .args .digits in
+    ap (λ (p : ℕ). div binary64 (ofInt binary64 (pos d)) (ofInt binary64 (pos p)))
+    (c .before .power-of-ten .ensures)
+    ∙ whole-quotient binary64 d (10 ^ n) (let h = s .pre .0 in omega arith) (exact n (s .pre .1))
+    (one-le-pow n 10 (zero-lt-suc 9))
 
 pub quotient-spec : {M : Type 1} → statement M
 quotient-spec = tie.close (tie.spec

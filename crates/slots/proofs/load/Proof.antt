@@ -15,7 +15,8 @@ returns c = c .unpacked .ensures ∙ ap₂ slotOf (c .before .before .word .ensu
 returns-2 : tie.Need-returns-2
 returns-2 c =
     let s = c .before .before in
-    let t = now (s .args .table) in let i = s .args .i in
+    let i = s .args .i in
+    let t = now (s .args .table) in
     let h : length t ≤ i * 2 = omega arith in
     let k : length t ≤ i * 2 + 1 = omega arith in
     sym (ap₂ slotOf (List·getD-eq-default t 0 h) (List·getD-eq-default t 0 k))

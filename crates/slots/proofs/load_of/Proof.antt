@@ -22,7 +22,8 @@ returns-7 : tie.Need-returns-7
 returns-7 c = packs-as _ (c .before .before .v4 .given .1) (search needs) (c .place-word .ensures)
 
 pub load-of-spec : {M : Type 1} → statement M
-load-of-spec = tie.close (tie.spec
-    (λ c. search needs) (λ c. search needs) (λ c. search needs) (λ c. search needs) (λ c. search needs) (λ c. search needs)
-    (λ c κs. search needs) (λ c. search needs) (λ c κs. search needs) (λ c. search needs) (λ c. search needs) returns-3 returns-4
-    returns-5 returns-6 returns-7)
+load-of-spec =
+    tie.close (tie.spec (λ c. search needs) (λ c. search needs) (λ c. search needs)
+    (λ c. search needs) (λ c. search needs) (λ c. search needs) (λ c κs. search needs)
+    (λ c. search needs) (λ c κs. search needs) (λ c. search needs) (λ c. search needs) returns-3
+    returns-4 returns-5 returns-6 returns-7)

@@ -28,10 +28,18 @@ returns-6 c = rw (c .match .keys6)
 
 returns-7 : tie.Need-returns-7
 returns-7 c =
-    let n = c .match .rest in let k = c .before .args .k in
-    rw (ne-eqb k 1 (n .0 .0 .0 .0 .0 .1), ne-eqb k 2 (n .0 .0 .0 .0 .1), ne-eqb k 3 (n .0 .0 .0 .1), ne-eqb k 4 (n .0 .0 .1), ne-eqb k 5 (n .0 .1), ne-eqb k 6 (n .1))
+    let n = c .match .rest in
+    let k = c .before .args .k in
+    rw (
+      ne-eqb k 1 (n .0 .0 .0 .0 .0 .1),
+      ne-eqb k 2 (n .0 .0 .0 .0 .1),
+      ne-eqb k 3 (n .0 .0 .0 .1),
+      ne-eqb k 4 (n .0 .0 .1),
+      ne-eqb k 5 (n .0 .1),
+      ne-eqb k 6 (n .1),
+    )
 
 pub unpacked-spec : {M : Type 1} → statement M
-unpacked-spec = tie.close (tie.spec
-    (λ c. search needs) (λ c κs. search needs) (λ c. search needs) (λ c. search needs) returns returns-2 returns-3 returns-4
-    returns-5 returns-6 returns-7)
+unpacked-spec =
+    tie.close (tie.spec (λ c. search needs) (λ c κs. search needs) (λ c. search needs)
+    (λ c. search needs) returns returns-2 returns-3 returns-4 returns-5 returns-6 returns-7)

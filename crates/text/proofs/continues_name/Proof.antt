@@ -20,7 +20,9 @@ returns c = simp (sym (c .before .starts-name .ensures) ∙ c .if1 .taken)
 
 -- src/lib.rt:59:1
 returns-2 : tie.Need-returns-2
-returns-2 c = name-digit _ (c .is-digit .result) (sym (c .before .before .starts-name .ensures) ∙ c .before .if1 .left) (c .is-digit .ensures)
+returns-2 c =
+    name-digit _ (c .is-digit .result)
+    (sym (c .before .before .starts-name .ensures) ∙ c .before .if1 .left) (c .is-digit .ensures)
 
 pub continues-name-spec : {M : Type 1} → statement M
 continues-name-spec = tie.close (tie.spec

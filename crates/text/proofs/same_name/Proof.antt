@@ -25,26 +25,35 @@ loop-holds c = (search needs, refl)
 
 returns-2 : tie.Need-returns-2 Inv-loop μ-loop
 returns-2 c =
-    let s = c .before .before .before .before .before .before .before .before .before .before in
-    let l = c .before .before .before .before .before .before .loop in
+    let b3 = c .before .before .before in
+    let l = b3 .before .before .before .loop in
+    let s = b3 .before .before .before .before .before .before .before in
     sym (l .inv .1
-    ∙ names-differ (s .args .a .now) (s .args .b .now) (l .i) _ _ (c .before .before .before .before .before .before .before .if1 .left) (c .before .before .before .lower .ensures) (c .before .lower2 .ensures) (c .before .before .before .before .before .loop-test .taken) (c .if2 .taken))
+    ∙ names-differ (s .args .a .now) (s .args .b .now) (l .i) _ _
+    (b3 .before .before .before .before .if1 .left) (b3 .lower .ensures)
+    (c .before .lower2 .ensures) (b3 .before .before .loop-test .taken) (c .if2 .taken))
 
 loop-again : tie.Need-loop-again Inv-loop μ-loop
 loop-again c =
-    let s = c .before .before .before .before .before .before .before .before .before .before in
-    let l = c .before .before .before .before .before .before .loop in (
+    let b3 = c .before .before .before in
+    let l = b3 .before .before .before .loop in
+    let s = b3 .before .before .before .before .before .before .before in (
       search needs,
       l .inv .1
-          ∙ names-agree (s .args .a .now) (s .args .b .now) (l .i) _ _ (c .before .before .before .before .before .before .before .if1 .left) (c .before .before .before .lower .ensures) (c .before .lower2 .ensures) (c .before .before .before .before .before .loop-test .taken) (c .if2 .left),
+          ∙ names-agree (s .args .a .now) (s .args .b .now) (l .i) _ _
+          (b3 .before .before .before .before .if1 .left) (b3 .lower .ensures)
+          (c .before .lower2 .ensures) (b3 .before .before .loop-test .taken) (c .if2 .left),
     )
 
 returns-3 : tie.Need-returns-3 Inv-loop μ-loop
 returns-3 c =
     let s = c .before .before .before .before .before in
-    sym (c .before .loop .inv .1 ∙ names-finished (s .args .a .now) (s .args .b .now) (c .before .loop .i) (c .before .before .if1 .left) (c .loop-test .left))
+    sym (c .before .loop .inv .1
+    ∙ names-finished (s .args .a .now) (s .args .b .now) (c .before .loop .i)
+    (c .before .before .if1 .left) (c .loop-test .left))
 
 pub same-name-spec : {M : Type 1} → statement M
-same-name-spec = tie.close (tie.spec
-    Inv-loop μ-loop returns loop-holds (λ c. search needs) (λ c κs. search needs) (λ c. search needs) (λ c κs. search needs)
-    returns-2 (λ c. search needs) (λ c. search needs) loop-again returns-3)
+same-name-spec =
+    tie.close (tie.spec Inv-loop μ-loop returns loop-holds (λ c. search needs)
+    (λ c κs. search needs) (λ c. search needs) (λ c κs. search needs) returns-2 (λ c. search needs)
+    (λ c. search needs) loop-again returns-3)

@@ -13,7 +13,9 @@ use Rattle.values.proofs.cut.Tie as tie
 returns : tie.Need-returns
 returns c =
     let s = c .before .before in
-    let m = now (s .args .memory) in rw (drop-length m, drop-of-length-le m (c .before .if1 .taken)) (cut-none (length m - length m) (s .args .length))
+    let m = now (s .args .memory) in
+    rw (drop-length m, drop-of-length-le m (c .before .if1 .taken))
+    (cut-none (length m - length m) (s .args .length))
 
 returns-2 : tie.Need-returns-2
 returns-2 c =
@@ -23,10 +25,14 @@ returns-2 c =
 returns-3 : tie.Need-returns-3
 returns-3 c =
     let s = c .before .before .before in
-    let m = now (s .args .memory) in let a = s .args .offset in
-    cut-all (drop a m) (length m - a) (s .args .length) (length-drop a m) (let h = c .before .if2 .left in omega arith)
+    let a = s .args .offset in
+    let m = now (s .args .memory) in
+    cut-all (drop a m) (length m - a) (s .args .length) (length-drop a m)
+    (let h = c .before .if2 .left in omega arith)
 
 pub cut-spec : {M : Type 1} → statement M
-cut-spec = tie.close (tie.spec
-    (λ c. search needs) (λ c. search needs) (λ c. search needs) returns (λ c. search needs) (λ c. search needs) (λ c. search needs)
-    (λ c. search needs) (λ c. search needs) returns-2 (λ c. search needs) (λ c. search needs) (λ c. search needs) returns-3)
+cut-spec =
+    tie.close (tie.spec (λ c. search needs) (λ c. search needs) (λ c. search needs) returns
+    (λ c. search needs) (λ c. search needs) (λ c. search needs) (λ c. search needs)
+    (λ c. search needs) returns-2 (λ c. search needs) (λ c. search needs) (λ c. search needs)
+    returns-3)

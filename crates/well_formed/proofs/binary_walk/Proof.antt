@@ -21,6 +21,8 @@ returns : tie.Need-returns
 returns c = cc
 
 pub binary-walk-spec : {M : Type 1} → statement M
-binary-walk-spec = tie.close (tie.spec
-    (λ c κs. search needs) (λ c κs. search needs) add-around (λ c κs. search needs) (λ c κs. search needs) (λ c κs. search needs) add-around-2
-    (λ c κs. search needs) (λ c. search needs) (λ c. search needs) (λ c κs. search needs) (λ c. search needs) returns)
+binary-walk-spec =
+    tie.close (tie.spec (λ c κs. search needs) (λ c κs. search needs) add-around
+    (λ c κs. search needs) (λ c κs. search needs) (λ c κs. search needs) add-around-2
+    (λ c κs. search needs) (λ c. search needs) (λ c. search needs) (λ c κs. search needs)
+    (λ c. search needs) returns)

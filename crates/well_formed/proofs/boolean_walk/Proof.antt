@@ -14,13 +14,23 @@ use Rattle.well_formed.proofs.boolean_walk.Lts as lts
 use Rattle.lexemes.proofs.both.Reads as both-reads
 
 sub-t7 : tie.Need-sub-t7
-sub-t7 c = omega (arith, leb-true (c .before .before .args .x) 1 (and-left (leb (c .before .before .args .x) 1) (eqb (c .before .before .args .y) 0) (sym (c .before .both .ensures) ∙ c .if1 .taken)))
+sub-t7 c =
+    let args = c .before .before .args in
+    omega (
+      arith,
+      leb-true (args .x) 1 (and-left (leb (args .x) 1) (eqb (args .y) 0)
+          (sym (c .before .both .ensures) ∙ c .if1 .taken)),
+    )
 
 returns : tie.Need-returns
-returns c = walk-if (booleanFits (c .before .before .args .x) (c .before .before .args .y)) _ (sym (c .before .both .ensures) ∙ c .if1 .taken)
+returns c =
+    walk-if (booleanFits (c .before .before .args .x) (c .before .before .args .y)) _
+    (sym (c .before .both .ensures) ∙ c .if1 .taken)
 
 returns-2 : tie.Need-returns-2
-returns-2 c = walk-bad (booleanFits (c .before .before .args .x) (c .before .before .args .y)) _ (sym (c .before .both .ensures) ∙ c .if1 .left)
+returns-2 c =
+    walk-bad (booleanFits (c .before .before .args .x) (c .before .before .args .y)) _
+    (sym (c .before .both .ensures) ∙ c .if1 .left)
 
 pub boolean-walk-spec : {M : Type 1} → statement M
 boolean-walk-spec = tie.close (tie.spec

@@ -9,19 +9,32 @@ use Rattle.well_formed.proofs.check.Lts as lts
 use Rattle.well_formed.proofs.check_room.Reads as check-room-reads
 
 returns : tie.Need-returns
-returns c = small-words (c .before .before .before .args .words .now) (c .before .before .before .args .bytes .now) (c .if1 .taken)
+returns c =
+    small-words (c .before .before .before .args .words .now)
+    (c .before .before .before .args .bytes .now) (c .if1 .taken)
 
 returns-2 : tie.Need-returns-2
-returns-2 c = small-bytes (c .before .before .before .before .args .words .now) (c .before .before .before .before .args .bytes .now) (c .if2 .taken)
+returns-2 c =
+    let args = c .before .before .before .before .args in
+    small-bytes (args .words .now) (args .bytes .now) (c .if2 .taken)
 
 slice-aggregate-check-room : tie.Need-slice-aggregate-check-room
-slice-aggregate-check-room c = sym (length-take-le 4864 (c .before .before .before .before .before .args .words .now) (c .before .before .if1 .left))
+slice-aggregate-check-room c =
+    sym (length-take-le 4864 (c .before .before .before .before .before .args .words .now)
+    (c .before .before .if1 .left))
 
 slice-aggregate-check-room-2 : tie.Need-slice-aggregate-check-room-2
-slice-aggregate-check-room-2 c = sym (length-take-le 16384 (c .before .before .before .before .before .before .args .bytes .now) (c .before .before .if2 .left))
+slice-aggregate-check-room-2 c =
+    sym (length-take-le 16384 (c .before .before .before .before .before .before .args .bytes .now)
+    (c .before .before .if2 .left))
 
 check-room-requires : tie.Need-check-room-requires
-check-room-requires c κs = (length-take-le 4864 (c .before .before .before .before .before .before .args .words .now) (c .before .before .before .if1 .left), length-take-le 16384 (c .before .before .before .before .before .before .args .bytes .now) (c .before .before .if2 .left))
+check-room-requires c κs =
+    let b2 = c .before .before in
+    let args = b2 .before .before .before .before .args in (
+      length-take-le 4864 (args .words .now) (b2 .before .if1 .left),
+      length-take-le 16384 (args .bytes .now) (b2 .if2 .left),
+    )
 
 returns-3 : tie.Need-returns-3
 returns-3 c = c .check-room .ensures

@@ -11,10 +11,16 @@ use Rattle.lexemes.proofs.both.Reads as both-reads
 use Rattle.lexemes.proofs.decimal_length.Reads as decimal-length-reads
 
 returns : tie.Need-returns
-returns c = ap (plainWalk (c .before .before .before .args .o)) (c .decimal-length .ensures .0) ∙ walk-if (integerFits (c .before .before .before .args .x) (c .before .before .before .args .y)) _ (sym (c .before .before .both .ensures) ∙ c .before .if1 .taken)
+returns c =
+    let args = c .before .before .before .args in
+    ap (plainWalk (args .o)) (c .decimal-length .ensures .0)
+    ∙ walk-if (integerFits (args .x) (args .y)) _
+    (sym (c .before .before .both .ensures) ∙ c .before .if1 .taken)
 
 returns-2 : tie.Need-returns-2
-returns-2 c = walk-bad (integerFits (c .before .before .args .x) (c .before .before .args .y)) _ (sym (c .before .both .ensures) ∙ c .if1 .left)
+returns-2 c =
+    walk-bad (integerFits (c .before .before .args .x) (c .before .before .args .y)) _
+    (sym (c .before .both .ensures) ∙ c .if1 .left)
 
 pub integer-walk-spec : {M : Type 1} → statement M
 integer-walk-spec = tie.close (tie.spec

@@ -10,10 +10,14 @@ use Rattle.well_formed.proofs.keyword_walk.Lts as lts
 use Rattle.lexemes.proofs.both.Reads as both-reads
 
 returns : tie.Need-returns
-returns c = walk-if (keywordFits (c .before .before .args .x) (c .before .before .args .y)) _ (sym (c .before .both .ensures) ∙ c .if1 .taken)
+returns c =
+    walk-if (keywordFits (c .before .before .args .x) (c .before .before .args .y)) _
+    (sym (c .before .both .ensures) ∙ c .if1 .taken)
 
 returns-2 : tie.Need-returns-2
-returns-2 c = walk-bad (keywordFits (c .before .before .args .x) (c .before .before .args .y)) _ (sym (c .before .both .ensures) ∙ c .if1 .left)
+returns-2 c =
+    walk-bad (keywordFits (c .before .before .args .x) (c .before .before .args .y)) _
+    (sym (c .before .both .ensures) ∙ c .if1 .left)
 
 pub keyword-walk-spec : {M : Type 1} → statement M
 keyword-walk-spec = tie.close (tie.spec

@@ -18,17 +18,50 @@ use Rattle.lexemes.proofs.is_name.Reads as is-name-reads
 use Rattle.well_formed.proofs.stands.Reads as stands-reads
 
 add-t10 : tie.Need-add-t10
-add-t10 c = let h = stands-room (c .before .before .before .before .before .before .args .bytes .now) (c .before .before .before .before .before .before .args .o) (c .before .before .before .before .before .before .args .x) (c .before .before .before .before .before .before .args .y) (isName (bytesAt (c .before .before .before .before .before .before .args .bytes .now) (c .before .before .before .before .before .before .args .o) (c .before .before .before .before .before .before .args .y))) (sym (c .before .both .ensures ∙ ands (c .before .before .before .stands .ensures) (c .before .before .is-name .ensures ∙ ap isName (c .before .before .before .before .part .ensures))) ∙ c .if1 .taken) (c .before .before .before .before .before .before .pre .1) (c .before .before .before .before .before .before .pre .0) in omega arith
+add-t10 c =
+    let b3 = c .before .before .before in
+    let start = b3 .before .before .before in
+    let args = start .args in
+    let h = stands-room (args .bytes .now) (args .o) (args .x) (args .y)
+    (isName (bytesAt (args .bytes .now) (args .o) (args .y))) (sym (c .before .both .ensures
+    ∙ ands (b3 .stands .ensures) (c .before .before .is-name .ensures
+    ∙ ap isName (b3 .before .part .ensures)))
+    ∙ c .if1 .taken) (start .pre .1) (start .pre .0) in
+    omega arith
 
 add-t11 : tie.Need-add-t11
-add-t11 c = let h = stands-room (c .before .before .before .before .before .before .args .bytes .now) (c .before .before .before .before .before .before .args .o) (c .before .before .before .before .before .before .args .x) (c .before .before .before .before .before .before .args .y) (isName (bytesAt (c .before .before .before .before .before .before .args .bytes .now) (c .before .before .before .before .before .before .args .o) (c .before .before .before .before .before .before .args .y))) (sym (c .before .both .ensures ∙ ands (c .before .before .before .stands .ensures) (c .before .before .is-name .ensures ∙ ap isName (c .before .before .before .before .part .ensures))) ∙ c .if1 .taken) (c .before .before .before .before .before .before .pre .1) (c .before .before .before .before .before .before .pre .0) in omega arith
+add-t11 c =
+    let b3 = c .before .before .before in
+    let start = b3 .before .before .before in
+    let args = start .args in
+    let h = stands-room (args .bytes .now) (args .o) (args .x) (args .y)
+    (isName (bytesAt (args .bytes .now) (args .o) (args .y))) (sym (c .before .both .ensures
+    ∙ ands (b3 .stands .ensures) (c .before .before .is-name .ensures
+    ∙ ap isName (b3 .before .part .ensures)))
+    ∙ c .if1 .taken) (start .pre .1) (start .pre .0) in
+    omega arith
 
 returns : tie.Need-returns
-returns c = walk-if (standsAt (c .before .before .before .before .before .before .args .bytes .now) (c .before .before .before .before .before .before .args .o) (c .before .before .before .before .before .before .args .x) (c .before .before .before .before .before .before .args .y) && isName (bytesAt (c .before .before .before .before .before .before .args .bytes .now) (c .before .before .before .before .before .before .args .o) (c .before .before .before .before .before .before .args .y))) _ (sym (c .before .both .ensures ∙ ands (c .before .before .before .stands .ensures) (c .before .before .is-name .ensures ∙ ap isName (c .before .before .before .before .part .ensures))) ∙ c .if1 .taken)
+returns c =
+    let b3 = c .before .before .before in
+    let args = b3 .before .before .before .args in
+    walk-if (standsAt (args .bytes .now) (args .o) (args .x) (args .y) && isName
+    (bytesAt (args .bytes .now) (args .o) (args .y))) _ (sym (c .before .both .ensures
+    ∙ ands (b3 .stands .ensures) (c .before .before .is-name .ensures
+    ∙ ap isName (b3 .before .part .ensures)))
+    ∙ c .if1 .taken)
 
 returns-2 : tie.Need-returns-2
-returns-2 c = walk-bad (standsAt (c .before .before .before .before .before .before .args .bytes .now) (c .before .before .before .before .before .before .args .o) (c .before .before .before .before .before .before .args .x) (c .before .before .before .before .before .before .args .y) && isName (bytesAt (c .before .before .before .before .before .before .args .bytes .now) (c .before .before .before .before .before .before .args .o) (c .before .before .before .before .before .before .args .y))) _ (sym (c .before .both .ensures ∙ ands (c .before .before .before .stands .ensures) (c .before .before .is-name .ensures ∙ ap isName (c .before .before .before .before .part .ensures))) ∙ c .if1 .left)
+returns-2 c =
+    let b3 = c .before .before .before in
+    let args = b3 .before .before .before .args in
+    walk-bad (standsAt (args .bytes .now) (args .o) (args .x) (args .y) && isName
+    (bytesAt (args .bytes .now) (args .o) (args .y))) _ (sym (c .before .both .ensures
+    ∙ ands (b3 .stands .ensures) (c .before .before .is-name .ensures
+    ∙ ap isName (b3 .before .part .ensures)))
+    ∙ c .if1 .left)
 
 pub name-walk-spec : {M : Type 1} → statement M
-name-walk-spec = tie.close (tie.spec
-    (λ c κs. search needs) (λ c κs. search needs) (λ c κs. search needs) (λ c κs. search needs) add-t10 add-t11 returns returns-2)
+name-walk-spec =
+    tie.close (tie.spec (λ c κs. search needs) (λ c κs. search needs) (λ c κs. search needs)
+    (λ c κs. search needs) add-t10 add-t11 returns returns-2)

@@ -12,13 +12,21 @@ use Rattle.lexemes.proofs.is_real.Reads as is-real-reads
 use Rattle.lexemes.proofs.real_length.Reads as real-length-reads
 
 real-length-requires : tie.Need-real-length-requires
-real-length-requires c κs = places-few (c .before .before .args .x) (c .before .before .args .y) (sym (c .before .is-real .ensures) ∙ c .if1 .taken)
+real-length-requires c κs =
+    places-few (c .before .before .args .x) (c .before .before .args .y)
+    (sym (c .before .is-real .ensures) ∙ c .if1 .taken)
 
 returns : tie.Need-returns
-returns c = ap (plainWalk (c .before .before .before .args .o)) (c .real-length .ensures .0) ∙ walk-if (isReal (c .before .before .before .args .x) (c .before .before .before .args .y)) _ (sym (c .before .before .is-real .ensures) ∙ c .before .if1 .taken)
+returns c =
+    let args = c .before .before .before .args in
+    ap (plainWalk (args .o)) (c .real-length .ensures .0)
+    ∙ walk-if (isReal (args .x) (args .y)) _
+    (sym (c .before .before .is-real .ensures) ∙ c .before .if1 .taken)
 
 returns-2 : tie.Need-returns-2
-returns-2 c = walk-bad (isReal (c .before .before .args .x) (c .before .before .args .y)) _ (sym (c .before .is-real .ensures) ∙ c .if1 .left)
+returns-2 c =
+    walk-bad (isReal (c .before .before .args .x) (c .before .before .args .y)) _
+    (sym (c .before .is-real .ensures) ∙ c .if1 .left)
 
 pub real-walk-spec : {M : Type 1} → statement M
 real-walk-spec = tie.close (tie.spec

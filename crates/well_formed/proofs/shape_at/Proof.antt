@@ -12,5 +12,6 @@ returns : tie.Need-returns
 returns c = cc
 
 pub shape-at-spec : {M : Type 1} → statement M
-shape-at-spec = tie.close (tie.spec
-    (λ c κs. search needs) (λ c κs. search needs) (λ c κs. search needs) (λ c κs. search needs) (λ c κs. search needs) returns)
+shape-at-spec =
+    tie.close (tie.spec (λ c κs. search needs) (λ c κs. search needs) (λ c κs. search needs)
+    (λ c κs. search needs) (λ c κs. search needs) returns)

@@ -24,17 +24,52 @@ use Rattle.lexemes.proofs.string_length.Reads as string-length-reads
 use Rattle.well_formed.proofs.stands.Reads as stands-reads
 
 add-t9 : tie.Need-add-t9
-add-t9 c = let h = stands-room (c .before .before .before .before .before .before .args .bytes .now) (c .before .before .before .before .before .before .args .o) (c .before .before .before .before .before .before .args .x) (c .before .before .before .before .before .before .args .y) (isString (bytesAt (c .before .before .before .before .before .before .args .bytes .now) (c .before .before .before .before .before .before .args .o) (c .before .before .before .before .before .before .args .y))) (sym (c .before .both .ensures ∙ ands (c .before .before .before .stands .ensures) (c .before .before .is-string .ensures ∙ ap isString (c .before .before .before .before .part .ensures))) ∙ c .if1 .taken) (c .before .before .before .before .before .before .pre .1) (c .before .before .before .before .before .before .pre .0) in omega arith
+add-t9 c =
+    let b3 = c .before .before .before in
+    let start = b3 .before .before .before in
+    let args = start .args in
+    let h = stands-room (args .bytes .now) (args .o) (args .x) (args .y)
+    (isString (bytesAt (args .bytes .now) (args .o) (args .y))) (sym (c .before .both .ensures
+    ∙ ands (b3 .stands .ensures) (c .before .before .is-string .ensures
+    ∙ ap isString (b3 .before .part .ensures)))
+    ∙ c .if1 .taken) (start .pre .1) (start .pre .0) in
+    omega arith
 
 string-length-requires : tie.Need-string-length-requires
-string-length-requires c κs = rw (c .before .before .before .before .part .ensures) (string-room (bytesAt (c .before .before .before .before .before .before .args .bytes .now) (c .before .before .before .before .before .before .args .o) (c .before .before .before .before .before .before .args .y)) (stands-test (c .before .before .before .before .before .before .args .bytes .now) (c .before .before .before .before .before .before .args .o) (c .before .before .before .before .before .before .args .x) (c .before .before .before .before .before .before .args .y) (isString (bytesAt (c .before .before .before .before .before .before .args .bytes .now) (c .before .before .before .before .before .before .args .o) (c .before .before .before .before .before .before .args .y))) (sym (c .before .both .ensures ∙ ands (c .before .before .before .stands .ensures) (c .before .before .is-string .ensures ∙ ap isString (c .before .before .before .before .part .ensures))) ∙ c .if1 .taken)))
+string-length-requires c κs =
+    let b3 = c .before .before .before in
+    let args = b3 .before .before .before .args in
+    rw (b3 .before .part .ensures) (string-room (bytesAt (args .bytes .now) (args .o) (args .y))
+    (stands-test (args .bytes .now) (args .o) (args .x) (args .y)
+    (isString (bytesAt (args .bytes .now) (args .o) (args .y))) (sym (c .before .both .ensures
+    ∙ ands (b3 .stands .ensures) (c .before .before .is-string .ensures
+    ∙ ap isString (b3 .before .part .ensures)))
+    ∙ c .if1 .taken)))
 
 returns : tie.Need-returns
-returns c = ap (Tree (c .before .before .before .before .before .before .before .args .o + c .before .before .before .before .before .before .before .args .y) 8 0) (c .string-length .ensures .0 ∙ ap (λ (x : List ℕ). length (literalText (string x))) (c .before .before .before .before .before .part .ensures)) ∙ walk-if (standsAt (c .before .before .before .before .before .before .before .args .bytes .now) (c .before .before .before .before .before .before .before .args .o) (c .before .before .before .before .before .before .before .args .x) (c .before .before .before .before .before .before .before .args .y) && isString (bytesAt (c .before .before .before .before .before .before .before .args .bytes .now) (c .before .before .before .before .before .before .before .args .o) (c .before .before .before .before .before .before .before .args .y))) _ (sym (c .before .before .both .ensures ∙ ands (c .before .before .before .before .stands .ensures) (c .before .before .before .is-string .ensures ∙ ap isString (c .before .before .before .before .before .part .ensures))) ∙ c .before .if1 .taken)
+returns c =
+    let b2 = c .before .before in
+    let b4 = b2 .before .before in
+    let args = b4 .before .before .before .args in
+    ap (Tree (args .o + args .y) 8 0) (c .string-length .ensures .0
+    ∙ ap (λ (x : List ℕ). length (literalText (string x))) (b4 .before .part .ensures))
+    ∙ walk-if (standsAt (args .bytes .now) (args .o) (args .x) (args .y) && isString
+    (bytesAt (args .bytes .now) (args .o) (args .y))) _ (sym (b2 .both .ensures
+    ∙ ands (b4 .stands .ensures) (b2 .before .is-string .ensures
+    ∙ ap isString (b4 .before .part .ensures)))
+    ∙ c .before .if1 .taken)
 
 returns-2 : tie.Need-returns-2
-returns-2 c = walk-bad (standsAt (c .before .before .before .before .before .before .args .bytes .now) (c .before .before .before .before .before .before .args .o) (c .before .before .before .before .before .before .args .x) (c .before .before .before .before .before .before .args .y) && isString (bytesAt (c .before .before .before .before .before .before .args .bytes .now) (c .before .before .before .before .before .before .args .o) (c .before .before .before .before .before .before .args .y))) _ (sym (c .before .both .ensures ∙ ands (c .before .before .before .stands .ensures) (c .before .before .is-string .ensures ∙ ap isString (c .before .before .before .before .part .ensures))) ∙ c .if1 .left)
+returns-2 c =
+    let b3 = c .before .before .before in
+    let args = b3 .before .before .before .args in
+    walk-bad (standsAt (args .bytes .now) (args .o) (args .x) (args .y) && isString
+    (bytesAt (args .bytes .now) (args .o) (args .y))) _ (sym (c .before .both .ensures
+    ∙ ands (b3 .stands .ensures) (c .before .before .is-string .ensures
+    ∙ ap isString (b3 .before .part .ensures)))
+    ∙ c .if1 .left)
 
 pub string-walk-spec : {M : Type 1} → statement M
-string-walk-spec = tie.close (tie.spec
-    (λ c κs. search needs) (λ c κs. search needs) (λ c κs. search needs) (λ c κs. search needs) add-t9 string-length-requires returns returns-2)
+string-walk-spec =
+    tie.close (tie.spec (λ c κs. search needs) (λ c κs. search needs) (λ c κs. search needs)
+    (λ c κs. search needs) add-t9 string-length-requires returns returns-2)

@@ -12,8 +12,11 @@ add-t11 : tie.Need-add-t11
 add-t11 c = let h = (rw (c .before .rest .given .1) at (c .before .before .before .pre .2)) in omega arith
 
 returns-2 : tie.Need-returns-2
-returns-2 c = sym (ap (rowBefore (c .before .before .before .args .len) (c .before .before .before .args .print)) (c .before .rest .given .1))
+returns-2 c =
+    sym (ap (rowBefore (c .before .before .before .args .len)
+    (c .before .before .before .args .print)) (c .before .rest .given .1))
 
 pub with-row-spec : {M : Type 1} → statement M
-with-row-spec = tie.close (tie.spec
-    (λ c. search needs) (λ c. search needs) (λ c. search needs) (λ c. search needs) add-t11 (λ c. search needs) returns-2)
+with-row-spec =
+    tie.close (tie.spec (λ c. search needs) (λ c. search needs) (λ c. search needs)
+    (λ c. search needs) add-t11 (λ c. search needs) returns-2)

@@ -14,10 +14,21 @@ use Rattle.well_formed.proofs.zero_bytes.Reads as zero-bytes-reads
 use Rattle.well_formed.proofs.zero_words.Reads as zero-words-reads
 
 returns : tie.Need-returns
-returns c = c .both2 .ensures ∙ ands (c .before .before .before .before .before .before .zero-words .ensures) (c .before .both .ensures ∙ ands (c .before .before .before .before .zero-words2 .ensures ∙ ap (every isZero) (rest-all (c .before .before .before .before .before .before .before .before .before .before .args .words .now) (4096 + 3 * c .before .before .before .before .before .before .before .before .before .before .args .d))) (c .before .before .zero-bytes .ensures ∙ ap (every isZero) (rest-all (c .before .before .before .before .before .before .before .before .before .before .args .bytes .now) (c .before .before .before .before .before .before .before .before .before .before .args .k))))
+returns c =
+    let b4 = c .before .before .before .before in
+    let args = b4 .before .before .before .before .before .before .args in
+    c .both2 .ensures
+    ∙ ands (b4 .before .before .zero-words .ensures) (c .before .both .ensures
+    ∙ ands (b4 .zero-words2 .ensures
+    ∙ ap (every isZero) (rest-all (args .words .now) (4096 + 3 * args .d)))
+    (c .before .before .zero-bytes .ensures
+    ∙ ap (every isZero) (rest-all (args .bytes .now) (args .k))))
 
 pub zero-behind-spec : {M : Type 1} → statement M
-zero-behind-spec = tie.close (tie.spec
-    (λ c. search needs) (λ c. search needs) (λ c. search needs) (λ c. search needs) (λ c. search needs) (λ c. search needs) (λ c. search needs)
-    (λ c κs. search needs) (λ c. search needs) (λ c. search needs) (λ c. search needs) (λ c. search needs) (λ c κs. search needs) (λ c. search needs)
-    (λ c. search needs) (λ c. search needs) (λ c κs. search needs) (λ c κs. search needs) (λ c κs. search needs) returns)
+zero-behind-spec =
+    tie.close (tie.spec (λ c. search needs) (λ c. search needs) (λ c. search needs)
+    (λ c. search needs) (λ c. search needs) (λ c. search needs) (λ c. search needs)
+    (λ c κs. search needs) (λ c. search needs) (λ c. search needs) (λ c. search needs)
+    (λ c. search needs) (λ c κs. search needs) (λ c. search needs) (λ c. search needs)
+    (λ c. search needs) (λ c κs. search needs) (λ c κs. search needs) (λ c κs. search needs)
+    returns)

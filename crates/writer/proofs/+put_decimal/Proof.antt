@@ -25,22 +25,59 @@ put-decimal-below t =
     and 1 put-decimal-kinds.ps (falls 1 put-decimal-kinds.ps _<_ μ-put-decimal t) put-decimal.Pre
 
 abbrev put-decimal-claims : ℕ → put-decimal-lts.Claims
-put-decimal-claims t = (digit-reads.Asked, digit-reads.Learnt, put-byte-reads.Asked, put-byte-reads.Learnt, put-decimal-below t, put-decimal.Post)
+put-decimal-claims t = (
+  digit-reads.Asked,
+  digit-reads.Learnt,
+  put-byte-reads.Asked,
+  put-byte-reads.Learnt,
+  put-decimal-below t,
+  put-decimal.Post,
+)
 
-put-decimal-add-result : (t : ℕ) → put-decimal-lts.Need-add-result (put-decimal-claims t) (put-decimal-at t) put-decimal.Post
-put-decimal-add-result t c = let h = near-one (c .before .before .before .before .before .before .before .args .v) (c .before .before .before .before .before .before .before .args .at) (c .before .before .before .before .before .if1 .taken) (c .before .before .before .before .before .before .before .pre .1) in omega arith
+put-decimal-add-result :
+    (t : ℕ) → put-decimal-lts.Need-add-result (put-decimal-claims t) (put-decimal-at t)
+    put-decimal.Post
+put-decimal-add-result t c =
+    let b5 = c .before .before .before .before .before in
+    let start = b5 .before .before in
+    let h = near-one (start .args .v) (start .args .at) (b5 .if1 .taken) (start .pre .1) in
+    omega arith
 
 put-decimal-returns : (t : ℕ) → put-decimal-lts.Need-returns (put-decimal-claims t) (put-decimal-at t) put-decimal.Post
-put-decimal-returns t c = decimal-puts-one _ _ (c .before .before .before .before .before .before .before .args .at) (c .before .before .before .before .before .before .before .args .v) _ (c .before .before .before .before .before .if1 .taken) (c .before .before .before .digit .ensures) (c .before .before .put-byte .ensures)
+put-decimal-returns t c =
+    let b2 = c .before .before in
+    let b5 = b2 .before .before .before in
+    decimal-puts-one _ _ (b5 .before .before .args .at) (b5 .before .before .args .v) _
+    (b5 .if1 .taken) (b2 .before .digit .ensures) (b2 .put-byte .ensures)
 
-put-decimal-put-decimal-requires : (t : ℕ) → put-decimal-lts.Need-put-decimal-requires (put-decimal-claims t) (put-decimal-at t) put-decimal.Post
-put-decimal-put-decimal-requires t c κs = (omega arith, near-decimal (c .before .before .before .args .v) (c .before .before .before .args .at) (c .before .if1 .left) (c .before .before .before .pre .1))
+put-decimal-put-decimal-requires :
+    (t : ℕ) → put-decimal-lts.Need-put-decimal-requires (put-decimal-claims t) (put-decimal-at t)
+    put-decimal.Post
+put-decimal-put-decimal-requires t c κs =
+    let start = c .before .before .before in (
+      omega arith,
+      near-decimal (start .args .v) (start .args .at) (c .before .if1 .left) (start .pre .1),
+    )
 
-put-decimal-add-result-2 : (t : ℕ) → put-decimal-lts.Need-add-result-2 (put-decimal-claims t) (put-decimal-at t) put-decimal.Post
-put-decimal-add-result-2 t c = let h = near-decimal-last (c .before .before .before .before .before .before .before .before .before .before .before .args .v) (c .before .before .before .before .before .before .before .before .before .before .before .args .at) _ (c .before .before .before .before .before .before .before .before .before .if1 .left) (c .before .before .before .before .before .before .before .before .before .before .before .pre .1) (c .before .before .before .before .before .before .before .put-decimal .ensures .behind) in omega arith
+put-decimal-add-result-2 :
+    (t : ℕ) → put-decimal-lts.Need-add-result-2 (put-decimal-claims t) (put-decimal-at t)
+    put-decimal.Post
+put-decimal-add-result-2 t c =
+    let b7 = c .before .before .before .before .before .before .before in
+    let start = b7 .before .before .before .before in
+    let h = near-decimal-last (start .args .v) (start .args .at) _ (b7 .before .before .if1 .left)
+    (start .pre .1) (b7 .put-decimal .ensures .behind) in
+    omega arith
 
-put-decimal-returns-2 : (t : ℕ) → put-decimal-lts.Need-returns-2 (put-decimal-claims t) (put-decimal-at t) put-decimal.Post
-put-decimal-returns-2 t c = decimal-puts-more (c .before .before .before .before .before .before .before .before .before .before .before .args .v) _ (c .before .before .before .before .before .before .before .before .before .if1 .left) (c .before .before .before .digit2 .ensures) (c .before .before .before .before .before .before .before .put-decimal .ensures) (c .before .before .put-byte2 .ensures)
+put-decimal-returns-2 :
+    (t : ℕ) → put-decimal-lts.Need-returns-2 (put-decimal-claims t) (put-decimal-at t)
+    put-decimal.Post
+put-decimal-returns-2 t c =
+    let b2 = c .before .before in
+    let b7 = b2 .before .before .before .before .before in
+    decimal-puts-more (b7 .before .before .before .before .args .v) _
+    (b7 .before .before .if1 .left) (b2 .before .digit2 .ensures) (b7 .put-decimal .ensures)
+    (b2 .put-byte2 .ensures)
 
 pub +put-decimal-spec : {M : Type 1} → statement M
 +put-decimal-spec = close μ-put-decimal λ t. put-decimal-lts.spec (put-decimal-claims t)

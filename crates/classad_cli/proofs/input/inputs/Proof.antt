@@ -11,6 +11,7 @@ abbrev μ-loop : tie.MeasureT-loop
 μ-loop from end n₀ i₀ n i = end - i
 
 pub inputs-spec : {M : Type 1} → statement M
-inputs-spec = tie.close (tie.spec
-    Inv-loop μ-loop (λ c. search needs) (λ c κs. search needs) (λ c. search needs) (λ c. search needs) (λ c. search needs) (λ c. search needs)
+inputs-spec =
+    tie.close (tie.spec Inv-loop μ-loop (λ c. search needs) (λ c κs. search needs)
+    (λ c. search needs) (λ c. search needs) (λ c. search needs) (λ c. search needs)
     (λ c. search needs))

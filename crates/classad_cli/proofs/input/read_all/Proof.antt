@@ -17,16 +17,32 @@ abbrev μ-loop : tie.MeasureT-loop
 μ-loop fd text₀ n₀ text n = length text₀ - n
 
 add-n : tie.Need-add-n Inv-loop μ-loop
-add-n c = let g = moves-on (c .before .before .before .before .before .before .before .before .loop .text) (c .before .before .before .before .before .before .before .before .loop .n) (c .before .k .given .0 .0) _ (c .before .before .before .before .before .before .before .loop-test .taken) (c .before .k .given .1) (c .before .before .before .before .before .read-some .ensures) in omega arith
+add-n c =
+    let b5 = c .before .before .before .before .before in
+    let b7 = b5 .before .before in
+    let g = moves-on (b7 .before .loop .text) (b7 .before .loop .n) (c .before .k .given .0 .0) _
+    (b7 .loop-test .taken) (c .before .k .given .1) (b5 .read-some .ensures) in
+    omega arith
 
 loop-less : tie.Need-loop-less Inv-loop μ-loop
-loop-less c = let g = moves-on (c .before .before .before .before .before .before .before .before .loop .text) (c .before .before .before .before .before .before .before .before .loop .n) (c .before .k .given .0 .0) _ (c .before .before .before .before .before .before .before .loop-test .taken) (c .before .k .given .1) (c .before .before .before .before .before .read-some .ensures) in omega arith
+loop-less c =
+    let b5 = c .before .before .before .before .before in
+    let b7 = b5 .before .before in
+    let g = moves-on (b7 .before .loop .text) (b7 .before .loop .n) (c .before .k .given .0 .0) _
+    (b7 .loop-test .taken) (c .before .k .given .1) (b5 .read-some .ensures) in
+    omega arith
 
 loop-again : tie.Need-loop-again Inv-loop μ-loop
-loop-again c = let g = moves-on (c .before .before .before .before .before .before .before .before .loop .text) (c .before .before .before .before .before .before .before .before .loop .n) (c .before .k .given .0 .0) _ (c .before .before .before .before .before .before .before .loop-test .taken) (c .before .k .given .1) (c .before .before .before .before .before .read-some .ensures) in (omega arith, search needs)
+loop-again c =
+    let b5 = c .before .before .before .before .before in
+    let b7 = b5 .before .before in
+    let g = moves-on (b7 .before .loop .text) (b7 .before .loop .n) (c .before .k .given .0 .0) _
+    (b7 .loop-test .taken) (c .before .k .given .1) (b5 .read-some .ensures) in
+    (omega arith, search needs)
 
 pub read-all-spec : {M : Type 1} → statement M
-read-all-spec = tie.close (tie.spec
-    Inv-loop μ-loop (λ c. search needs) (λ c. search needs) (λ c. search needs) (λ c. search needs) (λ c κs. search needs) (λ c. search needs)
-    (λ c. search needs) (λ c. search needs) (λ c. search needs) (λ c. search needs) (λ c. search needs) (λ c. search needs) add-n loop-less loop-again
-    (λ c. search needs) (λ c. search needs))
+read-all-spec =
+    tie.close (tie.spec Inv-loop μ-loop (λ c. search needs) (λ c. search needs) (λ c. search needs)
+    (λ c. search needs) (λ c κs. search needs) (λ c. search needs) (λ c. search needs)
+    (λ c. search needs) (λ c. search needs) (λ c. search needs) (λ c. search needs)
+    (λ c. search needs) add-n loop-less loop-again (λ c. search needs) (λ c. search needs))

@@ -12,8 +12,10 @@ begin-requires c κs =
 returns : tie.Need-returns
 returns c =
     let e-begin = c .before .before .begin in
-    let s = c .before .before .before .before .before .before .before in
-    (λ v b w d ta fl ls e. e-begin .ensures .0 _ ta fl ls (step-start v b w d _ e (s .pre .0)), e-begin .ensures .1)
+    let s = c .before .before .before .before .before .before .before in (
+      λ v b w d ta fl ls e. e-begin .ensures .0 _ ta fl ls (step-start v b w d _ e (s .pre .0)),
+      e-begin .ensures .1,
+    )
 
 pub between-spec : {M : Type 1} → statement M
 between-spec = tie.close (tie.spec

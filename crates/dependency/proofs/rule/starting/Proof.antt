@@ -9,26 +9,37 @@ use Rattle.dependency.proofs.rule.starting.Tie as tie
 add-n : tie.Need-add-n
 add-n c =
     let s = c .before .before .before .before .before in
-    let h = nodes-fit (s .pre .0) in let k = nodes-fit (s .pre .1) in search needs
+    let h = nodes-fit (s .pre .0) in
+    let k = nodes-fit (s .pre .1) in
+    search needs
 
 node-at-requires : tie.Need-node-at-requires
 node-at-requires c κs =
     let s = c .before .before .before .before .before in
-    let h = nodes-few (s .pre .0) (s .pre .1) in let j = s .pre .2 in omega arith
+    let j = s .pre .2 in
+    let h = nodes-few (s .pre .0) (s .pre .1) in
+    omega arith
 
 seek-requires : tie.Need-seek-requires
 seek-requires c κs =
     let e-node-at = c .before .node-at in
-    let s = c .before .before .before .before .before .before .before in
-    (let h = nodes-few (s .pre .0) (s .pre .1) in let j = s .pre .2 in omega arith, stands-small (now (s .args .v)) (now (s .args .w)) _ (nth-stands (s .pre .0) (s .pre .1) (s .pre .2) (e-node-at .ensures)), s .pre .3)
+    let s = c .before .before .before .before .before .before .before in (
+      let h = nodes-few (s .pre .0) (s .pre .1) in let j = s .pre .2 in omega arith,
+      stands-small (now (s .args .v)) (now (s .args .w)) _
+          (nth-stands (s .pre .0) (s .pre .1) (s .pre .2) (e-node-at .ensures)),
+      s .pre .3,
+    )
 
 returns : tie.Need-returns
 returns c =
     let e-seek = c .before .before .seek in
     let at-e-node-at = c .before .before .before .before in
     let e-node-at = at-e-node-at .node-at in
-    let s = at-e-node-at .before .before .before .before .before .before in
-    (λ b d ta fl ls. e-seek .ensures .0 _ ta fl ls (step-seek (s .pre .0) (s .pre .1) b d (e-node-at .ensures)), e-seek .ensures .1)
+    let s = at-e-node-at .before .before .before .before .before .before in (
+      λ b d ta fl ls. e-seek .ensures .0 _ ta fl ls
+          (step-seek (s .pre .0) (s .pre .1) b d (e-node-at .ensures)),
+      e-seek .ensures .1,
+    )
 
 pub starting-spec : {M : Type 1} → statement M
 starting-spec = tie.close (tie.spec

@@ -34,21 +34,28 @@ mul-prints : tie.Need-mul-prints Inv-loop μ-loop
 mul-prints c =
     let e-print-at = c .before .print-at in
     let e-loop = c .before .before .before .loop in
+    let h = e-print-at .ensures .1 in
+    let l = e-loop .inv .long in
     let s = c .before .before .before .before .before .before .before in
-    let h = e-print-at .ensures .1 in let k = s .pre .2 in let l = e-loop .inv .long in search needs
+    let k = s .pre .2 in
+    search needs
 
 slice-write-prints : tie.Need-slice-write-prints Inv-loop μ-loop
 slice-write-prints c =
     let e-print-at = c .before .print-at in
     let e-loop = c .before .before .before .loop in
+    let h = e-print-at .ensures .1 in
+    let l = e-loop .inv .long in
     let s = c .before .before .before .before .before .before .before in
-    let h = e-print-at .ensures .1 in let k = s .pre .2 in let l = e-loop .inv .long in omega arith
+    let k = s .pre .2 in
+    omega arith
 
 add-j : tie.Need-add-j Inv-loop μ-loop
 add-j c =
     let e-loop-test = c .before .before .loop-test in
     let s = c .before .before .before .before .before .before .before in
-    let h = name-small _ (s .pre .0) (s .pre .1) (e-loop-test .taken) in search needs
+    let h = name-small _ (s .pre .0) (s .pre .1) (e-loop-test .taken) in
+    search needs
 
 loop-again : tie.Need-loop-again Inv-loop μ-loop
 loop-again c =
@@ -57,18 +64,19 @@ loop-again c =
     let e-loop-test = c .before .before .loop-test in
     let e-loop = c .before .before .before .loop in
     let s = c .before .before .before .before .before .before .before in
-    filling-next (e-loop .inv) (e-loop-test .taken) (e-print-at .ensures .0) (let h = e-print-at .ensures .1 in let k = s .pre .2 in let l = e-loop .inv .long in omega arith) (e-print-of .ensures)
+    filling-next (e-loop .inv) (e-loop-test .taken) (e-print-at .ensures .0) (let h =
+    e-print-at .ensures .1 in
+    let k = s .pre .2 in
+    let l = e-loop .inv .long in
+    omega arith) (e-print-of .ensures)
 
 same-length : tie.Need-same-length Inv-loop μ-loop
-same-length c =
-    let e-loop = c .before .loop in
-    e-loop .inv .long
+same-length c = let e-loop = c .before .loop in e-loop .inv .long
 
 returns : tie.Need-returns Inv-loop μ-loop
-returns c =
-    let e-loop = c .before .loop in
-    filling-end (e-loop .inv) (search needs)
+returns c = let e-loop = c .before .loop in filling-end (e-loop .inv) (search needs)
 
 pub fill-spec : {M : Type 1} → statement M
-fill-spec = tie.close (tie.spec
-    Inv-loop μ-loop loop-holds print-at-requires print-of-requires mul-prints slice-write-prints add-j (λ c. search needs) loop-again same-length returns)
+fill-spec =
+    tie.close (tie.spec Inv-loop μ-loop loop-holds print-at-requires print-of-requires mul-prints
+    slice-write-prints add-j (λ c. search needs) loop-again same-length returns)

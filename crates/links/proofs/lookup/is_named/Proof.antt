@@ -5,23 +5,17 @@ use Rattle.links.proofs.lookup.is_named.Tie as tie
 
 mul-if1 : tie.Need-mul-if1
 mul-if1 c =
-    let s = c .before .before .before .before in
-    let h = s .pre .0 .2 in search needs
+    let s = c .before .before .before .before in let h = s .pre .0 .2 in search needs
 
 shared-slice-read-if1 : tie.Need-shared-slice-read-if1
-shared-slice-read-if1 c =
-    let s = c .before .before .before .before .before in
-    s .pre .0 .2
+shared-slice-read-if1 c = let s = c .before .before .before .before .before in s .pre .0 .2
 
 has-name-requires : tie.Need-has-name-requires
 has-name-requires c κs =
-    let s = c .before .before .before .before .before .before in
-    (s .pre .0 .0, s .pre .0 .1)
+    let s = c .before .before .before .before .before .before in (s .pre .0 .0, s .pre .0 .1)
 
 returns : tie.Need-returns
-returns c =
-    let e-has-name = c .has-name in
-    e-has-name .ensures
+returns c = let e-has-name = c .has-name in e-has-name .ensures
 
 returns-2 : tie.Need-returns-2
 returns-2 c =

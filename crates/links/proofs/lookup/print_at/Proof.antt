@@ -5,14 +5,10 @@ use Rattle.links.proofs.lookup.print_at.Statement.{statement}
 use Rattle.links.proofs.lookup.print_at.Tie as tie
 
 returns : tie.Need-returns
-returns c =
-    let e-if1 = c .if1 in
-    (print-second _ _ (e-if1 .taken), omega arith)
+returns c = let e-if1 = c .if1 in (print-second _ _ (e-if1 .taken), omega arith)
 
 returns-2 : tie.Need-returns-2
-returns-2 c =
-    let e-if1 = c .if1 in
-    (print-first _ _ (e-if1 .left), omega arith)
+returns-2 c = let e-if1 = c .if1 in (print-first _ _ (e-if1 .left), omega arith)
 
 pub print-at-spec : {M : Type 1} → statement M
 print-at-spec = tie.close (tie.spec

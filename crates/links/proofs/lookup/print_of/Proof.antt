@@ -11,7 +11,8 @@ returns c =
     let e-name-length = c .before .before .name-length in
     let e-offset = c .before .before .before .offset in
     let s = c .before .before .before .before .before .before in
-    named-part (now (s .args .bytes)) (e-fingerprint .ensures) (e-part .ensures) (e-offset .ensures) (e-name-length .ensures)
+    named-part (now (s .args .bytes)) (e-fingerprint .ensures) (e-part .ensures) (e-offset .ensures)
+    (e-name-length .ensures)
 
 pub print-of-spec : {M : Type 1} → statement M
 print-of-spec = tie.close (tie.spec

@@ -16,14 +16,19 @@ loop-holds : tie.Need-loop-holds Inv-loop μ-loop
 loop-holds c = counted-first _ _
 
 returns : tie.Need-returns Inv-loop μ-loop
-returns c = definitions-are _ (counted-stop _ _ _ (c .before .before .before .loop .inv) (c .before .before .loop-test .taken) (sym (c .before .name-length .ensures) ∙ c .if1 .taken))
+returns c =
+    definitions-are _ (counted-stop _ _ _ (c .before .before .before .loop .inv)
+    (c .before .before .loop-test .taken) (sym (c .before .name-length .ensures) ∙ c .if1 .taken))
 
 loop-again : tie.Need-loop-again Inv-loop μ-loop
-loop-again c = counted-next _ _ _ (c .before .before .before .loop .inv) (c .before .before .loop-test .taken) (λ e. c .if1 .left (c .before .name-length .ensures ∙ e))
+loop-again c =
+    counted-next _ _ _ (c .before .before .before .loop .inv) (c .before .before .loop-test .taken)
+    (λ e. c .if1 .left (c .before .name-length .ensures ∙ e))
 
 returns-2 : tie.Need-returns-2 Inv-loop μ-loop
 returns-2 c = definitions-are _ (counted-end _ _ _ (c .before .loop .inv) (search needs))
 
 pub count-definitions-spec : {M : Type 1} → statement M
-count-definitions-spec = tie.close (tie.spec
-    Inv-loop μ-loop loop-holds (λ c κs. search needs) returns (λ c. search needs) (λ c. search needs) loop-again returns-2)
+count-definitions-spec =
+    tie.close (tie.spec Inv-loop μ-loop loop-holds (λ c κs. search needs) returns
+    (λ c. search needs) (λ c. search needs) loop-again returns-2)

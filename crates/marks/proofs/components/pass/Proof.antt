@@ -10,5 +10,7 @@ returns-2 : tie.Need-returns-2
 returns-2 c = (c .before .before .before .write .ensures, flagged-no _ _ (c .if1 .left))
 
 pub pass-spec : {M : Type 1} → statement M
-pass-spec = tie.close (tie.spec
-    (λ c. search needs) (λ c κs. search needs) (λ c. search needs) (λ c. search needs) (λ c. search needs) (λ c. search needs) returns (λ c. search needs) returns-2)
+pass-spec =
+    tie.close (tie.spec (λ c. search needs) (λ c κs. search needs) (λ c. search needs)
+    (λ c. search needs) (λ c. search needs) (λ c. search needs) returns (λ c. search needs)
+    returns-2)

@@ -6,7 +6,13 @@ use Rattle.marks.proofs.memory.enter.Tie as tie
 
 returns : tie.Need-returns
 unfolding fill
-returns c = let d = c .before .before in let e = d .before .before .before .before in rw (d .write3 .ensures, e .write2 .ensures, e .before .before .before .before .write .ensures) refl
+returns c =
+    let d = c .before .before in
+    let e = d .before .before .before .before in
+    rw (d .write3 .ensures, e .write2 .ensures, e .before .before .before .before .write .ensures)
+    refl
 
 pub enter-spec : {M : Type 1} → statement M
-enter-spec = tie.close (tie.spec (λ c κs. search needs) (λ c κs. search needs) (λ c κs. search needs) (λ c. search needs) returns)
+enter-spec =
+    tie.close (tie.spec (λ c κs. search needs) (λ c κs. search needs) (λ c κs. search needs)
+    (λ c. search needs) returns)
