@@ -15,8 +15,8 @@ use Rattle.syntax.specs.Token.{pick}
 use Rattle.syntax.specs.Reader as R
 use Rattle.ad.specs.Layout.{adWords, adBytesRoom, storedWords, storedBytes}
 use Rattle.well_formed.specs.WellFormed.{Holds}
+use Rattle.well_formed.specs.Laws.Bounds.{read-holds}
 use Rattle.well_formed.specs.Laws.Whole.{holds-long}
-use Rattle.round_trip.specs.Laws.Readable.{read-holds}
 use Rattle.reader.specs.declared.Answer.{Answer}
 use Rattle.reader.specs.declared.Answer.the-variants as reading
 use Rattle.reader.specs.Content.{answerOf, wordsOf, bytesOf, small, answer, wordsAfter, bytesAfter, Answered}

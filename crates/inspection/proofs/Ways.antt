@@ -9,6 +9,7 @@ use Rattle.syntax.specs.Tree.{Ad, nodes, size}
 use Rattle.syntax.specs.Print.{printed}
 use Rattle.ad.specs.Layout.{exprBytes}
 use Rattle.well_formed.specs.WellFormed.{Answers}
+use Rattle.well_formed.specs.Laws.Bounds.{bounded}
 use Rattle.well_formed.specs.Laws.Runs.{Stands, stands-inside}
 use Rattle.well_formed.specs.Laws.Prints.{print-short}
 use Rattle.well_formed.specs.declared.Checked.the-variants.{WellFormed}
@@ -40,7 +41,7 @@ module _ (w b : List ℕ) (hw : length w ≡ 4864) (hb : length b ≡ 16384) (d 
     pub node-fits : Fits printed w b node 0
     node-fits =
         let r = at .stands in
-        let f : nodes (h .0) ≤ 1024 = h .1 .bounded .within .few-nodes in
+        let f : nodes (h .0) ≤ 1024 = bounded (h .1) .within .few-nodes in
         let s : size (at .tree) ≤ 1024 = omega (arith, r .long, h .3) in
         record {
           words = omega arith;

@@ -15,6 +15,7 @@ use Rattle.ad.specs.Laws.Content.{size-some}
 use Rattle.writer.specs.Put.{Puts, Near}
 use Rattle.writer.proofs.Laws.{puts-byte, puts-join, puts-as}
 use Rattle.well_formed.specs.WellFormed.{Holds, Answers}
+use Rattle.well_formed.specs.Laws.Bounds.{bounded}
 use Rattle.well_formed.specs.Laws.Runs.{bytes-are}
 use Rattle.well_formed.specs.Laws.Leaves.{Run}
 use Rattle.well_formed.specs.Laws.Definitions.{Table, table-row}
@@ -188,7 +189,7 @@ module _ (w b o : List ℕ) (hw : length w ≡ 4864) (hb : length b ≡ 16384) w
     pub print-fits : k ≤ 16384 → TableFits w b 0 d 2
     print-fits g = record {
       words = omega arith;
-      few = let z : length (h .0) ≤ 256 = h .1 .bounded .within .few-definitions in omega (arith, h .2);
+      few = let z : length (h .0) ≤ 256 = bounded (h .1) .within .few-definitions in omega (arith, h .2);
       ad = h .0;
       node = 0;
       byte = 0;

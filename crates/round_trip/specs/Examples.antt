@@ -17,7 +17,7 @@ use Rattle.syntax.specs.Print.{digits, literalText, referenceText, binaryText, 
 use Rattle.syntax.specs.declared.Binary.the-variants.{Add, Multiply}
 use Rattle.syntax.specs.declared.Unary.the-variants.{Minus}
 use Rattle.lexemes.specs.Lexeme.{every, isOneOf, isName, isLiteral}
-use Rattle.well_formed.specs.WellFormed.{isWritable, areWritable, Bounded}
+use Rattle.round_trip.specs.Bounded.{isWritable, areWritable, Bounded}
 use Rattle.round_trip.specs.WithoutPair.{pair-here, pair-left, DefinitionsWithoutPair, pair-in-last}
 use Rattle.round_trip.specs.Printed.{exprTokens, parentheses}
 use Rattle.round_trip.specs.Laws.Parentheses.{append}

@@ -1,5 +1,5 @@
 pub mod Printed
-pub mod Left
+pub mod Bounded
 pub mod WithoutPair
 pub mod Laws
 pub mod Examples

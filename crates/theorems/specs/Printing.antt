@@ -12,6 +12,7 @@ use Rattle.syntax.specs.Print.{printedAd}
 use Rattle.syntax.specs.Reader as R
 use Rattle.ad.specs.Layout.{adWords, adBytesRoom}
 use Rattle.well_formed.specs.WellFormed.{Holds, Answers}
+use Rattle.well_formed.specs.Laws.Bounds.{bounded}
 use Rattle.well_formed.specs.Laws.Whole.{holds-long, holds-found}
 use Rattle.well_formed.specs.declared.Checked.{Checked}
 use Rattle.well_formed.specs.declared.Checked.the-variants.{WellFormed, Malformed}
@@ -39,7 +40,7 @@ pub record ReadBack (w b w₀ b₀ w₁ b₁ : List ℕ) (r : Answer) : Type 0 w
 
 tree-back : {w b o s w₀ b₀ w₁ b₁ : List ℕ} {r : Answer} (a : Ad) → Stored w b a → Fitting o (printedAd a) → s ≡ printedAd a → Roomy w₀ b₀ → Answered s w₀ b₀ w₁ b₁ r → ReadBack w b w₀ b₀ w₁ b₁ r
 tree-back {w₀ = w₀} {b₀} a h f e m x =
-    let y = read-answered a m (ap R.read e ∙ read-back a (h .bounded) (f .bounded)) x in
+    let y = read-answered a m (ap R.read e ∙ read-back a (bounded h) (f .bounded)) x in
     record {
       tree = a;
       stored = h;

@@ -15,12 +15,12 @@ use Rattle.syntax.specs.Token.{pick}
 use Rattle.syntax.specs.Reader as R
 use Rattle.ad.specs.Layout.{adWords, adBytesRoom, storedWords, storedBytes}
 use Rattle.well_formed.specs.WellFormed.{Holds}
+use Rattle.well_formed.specs.Laws.Bounds.{bounded, read-holds}
 use Rattle.well_formed.specs.Laws.Whole.{holds-long}
 use Rattle.well_formed.specs.Laws.Named.{bounded-named}
 use Rattle.ad.specs.Stored.{nodeCount}
 use Rattle.links.specs.Pair.{Formed}
 use Rattle.links.specs.Laws.Layout.{stored-nodes, stored-formed}
-use Rattle.round_trip.specs.Laws.Readable.{read-holds}
 use Rattle.printer.specs.Prints.{Roomy}
 use Rattle.reader.specs.declared.Answer.{Answer}
 use Rattle.reader.specs.declared.Answer.the-variants.{Accepted, Refused}
@@ -81,7 +81,7 @@ pub read-formed : (s : List ℕ) (a : Ad) → R.read s ≡ R.accepted a → Form
 read-formed s a e =
     let h = read-holds s a e in
     stored-formed {b = storedBytes a} {a = a}
-    (record { words = h .words; bytes-are = h .bytes; few-nodes = h .bounded .within .few-nodes; few-definitions = h .bounded .within .few-definitions; named = bounded-named a (h .bounded) })
+    (record { words = h .words; bytes-are = h .bytes; few-nodes = bounded h .within .few-nodes; few-definitions = bounded h .within .few-definitions; named = bounded-named a (bounded h) })
 
 -- ---- the front parts
 
@@ -99,5 +99,5 @@ module _ {s w b w′ b′ : List ℕ} {r : Answer} {a : Ad} (x : ReadAs s w b w�
   -- the nodes that a match counts in memory are those that reading counted
   pub front-nodes : nodeCount (take adWords w′) ≡ nodes a
   front-nodes =
-      let k = tree-holds .bounded in
+      let k = bounded tree-holds in
       ap nodeCount front-words ∙ stored-nodes a (k .within .few-nodes) (k .within .few-definitions) (bounded-named a k)

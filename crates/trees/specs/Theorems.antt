@@ -59,10 +59,10 @@ node-owned = owned
 module _ {v b w c : List ℕ} {a a′ : Ad} (h : Holds v b a) (h′ : Holds w c a′) where
   -- the same ads in memory of their own
   kept : Holds (storedWords a) (storedBytes a) a
-  kept = record { bounded = h .bounded; fits = h .fits; words = refl; bytes = refl }
+  kept = record { text = h .text; reads = h .reads; fits = h .fits; words = refl; bytes = refl }
 
   kept′ : Holds (storedWords a′) (storedBytes a′) a′
-  kept′ = record { bounded = h′ .bounded; fits = h′ .fits; words = refl; bytes = refl }
+  kept′ = record { text = h′ .text; reads = h′ .reads; fits = h′ .fits; words = refl; bytes = refl }
 
   -- THE GRAPH OF TWO STORED ADS IS THAT OF THEIR TREES: 'An operator leads to all its operands, arms not taken included .. A reference
   -- leads to its definition'

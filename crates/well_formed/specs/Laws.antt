@@ -7,4 +7,5 @@ pub mod Operands
 pub mod Prints
 pub mod Definitions
 pub mod Named
+pub mod Bounds
 pub mod Whole

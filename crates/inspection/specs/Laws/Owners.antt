@@ -13,6 +13,7 @@ use Rattle.ad.specs.Layout.{adBytes}
 use Rattle.ad.specs.Stored.{lengthAt, rootAt}
 use Rattle.ad.specs.Laws.Content.{size-some}
 use Rattle.well_formed.specs.WellFormed.{Holds}
+use Rattle.well_formed.specs.Laws.Bounds.{bounded}
 use Rattle.well_formed.specs.Laws.Definitions.{name-some, Table, table-row}
 use Rattle.well_formed.specs.Laws.Whole.{holds-table, stop-zero, holds-long}
 use Rattle.inspection.specs.Inspection.{ownerFrom, owner, holderFrom, holder}
@@ -52,5 +53,5 @@ pub holder-owner : (w b : List ℕ) (a : Ad) (i : ℕ) → Holds w b a → holde
 holder-owner w b a i h =
     let l = holds-long a h in
     let t = holds-table w b (l .0) (l .1) a h in
-    let few : length a ≤ 256 = h .bounded .within .few-definitions in
+    let few : length a ≤ 256 = bounded h .within .few-definitions in
     rw (le-ltb (length w) 4864 (omega arith)) (from a 256 w b 0 0 0 i (t .0) few (λ x. stop-zero w b (l .0) (l .1) (length a) (nodes a) (length (adBytes a)) (t .1) x) (omega arith) ∙ ap (ownerFrom 0 a) (let e : i - 0 ≡ i = omega arith in e))

@@ -7,6 +7,7 @@ use Rattle.ad.specs.Layout.{adWords, adBytesRoom}
 use Rattle.links.specs.Pair.{Formed}
 use Rattle.links.specs.Laws.Layout.{stored-formed}
 use Rattle.well_formed.specs.WellFormed.{Answers}
+use Rattle.well_formed.specs.Laws.Bounds.{bounded}
 use Rattle.well_formed.specs.Laws.Named.{bounded-named}
 use Rattle.well_formed.specs.declared.Checked.{Checked}
 use Rattle.well_formed.specs.declared.Checked.the-variants.{WellFormed, Malformed}
@@ -15,7 +16,7 @@ use Rattle.matching.specs.Matching.{Well}
 pub formed-of : (w b : List ℕ) → Well w b → Formed (take adWords w)
 formed-of w b (a, h) =
     stored-formed {b = take adBytesRoom b} {a = a}
-    (record { words = h .words; bytes-are = h .bytes; few-nodes = h .bounded .within .few-nodes; few-definitions = h .bounded .within .few-definitions; named = bounded-named a (h .bounded) })
+    (record { words = h .words; bytes-are = h .bytes; few-nodes = bounded h .within .few-nodes; few-definitions = bounded h .within .few-definitions; named = bounded-named a (bounded h) })
 
 pub well-formed : (w b : List ℕ) {d n k : ℕ} {r : Checked} → Answers w b r → r ≡ WellFormed d n k → Well w b
 well-formed w b {d} {n} {k} h e = go (subst (λ (x : Checked). Answers w b x) e h)

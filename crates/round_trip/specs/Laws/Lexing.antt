@@ -23,7 +23,7 @@ use Rattle.syntax.specs.declared.Unary.{Unary}
 use Rattle.syntax.specs.declared.Unary.the-variants.{Not, Plus, Minus}
 use Rattle.syntax.specs.declared.Symbol.the-variants.{Question, Colon, OpenParenthesis, CloseParenthesis, OpenBracket, CloseBracket, Semicolon, Assign, Point, Other}
 use Rattle.lexemes.specs.Lexeme.{every, isName, isReal, isString, isLiteral}
-use Rattle.well_formed.specs.WellFormed.{isWritable, areWritable}
+use Rattle.round_trip.specs.Bounded.{isWritable, areWritable}
 use Rattle.lexemes.specs.Laws.Digits.{length-last}
 use Rattle.round_trip.specs.Printed.{wrapTokens, referenceTokens, exprTokens, definitionTokens, adTokens}
 use Rattle.round_trip.specs.Laws.Fronts.{Ends, Without, ends-name, front-all, IsName, name-parts, name-token, starts-solid, Number, decimal-number, integer-front, real-front, real-parts, digit-none, number-token, string-token}

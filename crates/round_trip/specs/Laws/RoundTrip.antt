@@ -8,7 +8,7 @@ use Rattle.syntax.specs.Tree.{Ad}
 use Rattle.syntax.specs.Reader.{accepted, parse, read}
 use Rattle.syntax.specs.Print.{printedAd}
 use Rattle.syntax.specs.Laws.Accepts.{accepts}
-use Rattle.well_formed.specs.WellFormed.{Bounded}
+use Rattle.round_trip.specs.Bounded.{Bounded}
 use Rattle.round_trip.specs.Printed.{adTokens}
 use Rattle.round_trip.specs.Laws.Derives.{derives}
 use Rattle.round_trip.specs.Laws.Lexing.{printed-tokens}

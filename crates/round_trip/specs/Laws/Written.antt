@@ -19,7 +19,7 @@ use Rattle.syntax.specs.Grammar.{Reads, reads-literal, reads-own, reads-other, 
 use Rattle.syntax.specs.Laws.Codes.{on-pick, on-cond, both}
 use Rattle.syntax.specs.declared.Symbol.the-variants.{Question, Colon, CloseParenthesis, CloseBracket, Semicolon}
 use Rattle.lexemes.specs.Lexeme.{every, isOneOf, isName, inString, isString, isReal, isLiteral}
-use Rattle.well_formed.specs.WellFormed.{isWritable, areWritable}
+use Rattle.round_trip.specs.Bounded.{isWritable, areWritable}
 use Rattle.round_trip.specs.Laws.Fronts.{every-append}
 
 -- a token whose name or literal a text can write

@@ -16,7 +16,9 @@ use Rattle.ad.specs.Layout.{literalBytes, storedWords, storedBytes}
 use Rattle.ad.specs.Stored.{bytesAt}
 use Rattle.graph.specs.Graph.{Flags, needs}
 use Rattle.links.specs.Pair.{linked, numbered, definitionAt}
-use Rattle.well_formed.specs.WellFormed.{isWritable, Holds}
+use Rattle.round_trip.specs.Bounded.{isWritable}
+use Rattle.well_formed.specs.WellFormed.{Holds}
+use Rattle.well_formed.specs.Laws.Bounds.{bounded}
 use Rattle.well_formed.specs.Laws.Shapes.{and-left, and-right}
 use Rattle.values.specs.declared.Value.{Value}
 use Rattle.values.specs.declared.Value.the-variants.{Undefined}
@@ -153,7 +155,7 @@ module _ {a a′ : Ad} (h : Holds (storedWords a) (storedBytes a) a) (h′ : Hol
     step-means second n (literal l) p us k =
         let s = said h h′ second p in
         let o : s .place < 65536 = let q = s .in-bytes in let r = stored-long (adOf a a′ second) (holds h h′ second .fits) in omega arith in
-        let f : LiteralFits (s .place) l = literal-fits (s .place) l (part-writable (holds h h′ second .bounded .writable) p) o in
+        let f : LiteralFits (s .place) l = literal-fits (s .place) l (part-writable (bounded (holds h h′ second) .writable) p) o in
         subst (λ (u : Value). Means a a′ second n (literal l) u) (sym (rule-own h h′ second p us (as-literal second s f))) (is-literal (literal-denotes second (storedBytes (adOf a a′ second)) (s .place) l f (s .bytes-are)))
     step-means second n (reference s name) p us k =
         let q : lastOf n (reference s name) ≡ n = own-leaf n s name in

@@ -16,6 +16,7 @@ use Rattle.links.specs.Pair.{inside, across, linked, numbered, both, definition
 use Rattle.graph.specs.Laws.Members.{ltb-yes}
 use Rattle.links.specs.Laws.Soundness.{both-low, both-high}
 use Rattle.well_formed.specs.WellFormed.{Holds}
+use Rattle.well_formed.specs.Laws.Bounds.{bounded}
 use Rattle.well_formed.specs.Laws.Named.{bounded-named}
 use Rattle.values.specs.declared.Value.{Value}
 use Rattle.nodes.specs.declared.Node as kind
@@ -75,7 +76,7 @@ across-numbers s (y ∷ l) = ap (λ (u : List ℕ). numbered (not s) y ∷ u) (a
 
 -- an ad in its memory
 pub stored-of : {w b : List ℕ} {a : Ad} → Holds w b a → StoredAd w b a
-stored-of {w} {b} {a} h = record { words = h .words; bytes-are = h .bytes; few-nodes = h .bounded .within .few-nodes; few-definitions = h .bounded .within .few-definitions; named = bounded-named a (h .bounded) }
+stored-of {w} {b} {a} h = record { words = h .words; bytes-are = h .bytes; few-nodes = bounded h .within .few-nodes; few-definitions = bounded h .within .few-definitions; named = bounded-named a (bounded h) }
 
 pub stored-long : (a : Ad) → length (adBytes a) ≤ adBytesRoom → length (storedBytes a) ≡ adBytesRoom
 unfolding storedBytes
@@ -109,7 +110,7 @@ module _ {a a′ : Ad} (h : Holds (storedWords a) (storedBytes a) a) (h′ : Hol
 
   module _ (second : Bool) {n : ℕ} {e : Expr} (p : Part (adOf a a′ second) n e) where
     pub low : lastOf n e < maxNodes
-    low = let t = top p .stands in let q = holds second .bounded .within .few-nodes in omega arith
+    low = let t = top p .stands in let q = bounded (holds second) .within .few-nodes in omega arith
 
     pub said : Says (storedWords (adOf a a′ second)) (storedBytes (adOf a a′ second)) (lastOf n e) (topOf n e)
     said = subst (Says (storedWords (adOf a a′ second)) (storedBytes (adOf a a′ second)) (lastOf n e)) (top p .is) (stored-node (stored-of (holds second)) (lastOf n e) (top p .stands))

@@ -9,7 +9,7 @@ use lib.ListN.{length, getD, length-append}
 use lib.Seq.{getD-at}
 use Rattle.syntax.specs.Tree.{undefined, Expr, literal, reference, unary, binary, conditional, Ad, size, nodes}
 use Rattle.lexemes.specs.Lexeme.{isName}
-use Rattle.well_formed.specs.WellFormed.{isWritable, areWritable}
+use Rattle.round_trip.specs.Bounded.{isWritable, areWritable}
 use Rattle.well_formed.specs.Laws.Shapes.{and-left, and-right}
 use Rattle.trees.specs.Nodes.{Node, leaf, refers, ofOne, ofTwo, ofThree, lastOf, nodesOf, nodesIn, nthNode}
 use Rattle.trees.specs.Values.{Defines, defines-first, defines-later, Part, whole, under, left, right, test, taken, otherwise}

@@ -12,7 +12,7 @@ use Rattle.syntax.specs.Token.{pick}
 use Rattle.lexemes.specs.Lexeme.{isName, isString, isLiteral}
 use Rattle.ad.specs.Layout.{scopeKind, node, literalNode, literalBytes, exprBytes, exprNodes}
 use Rattle.ad.specs.Stored.{kindAt, operandAt, bytesAt}
-use Rattle.well_formed.specs.WellFormed.{isWritable}
+use Rattle.round_trip.specs.Bounded.{isWritable}
 use Rattle.well_formed.specs.Decode.{Found, got, bad, chain, test, standsAt, leafOf, leafAt}
 use Rattle.well_formed.specs.Laws.Runs.{Stands, stands-none, stands-as, node-of, kind-is, first-is, second-is, third-is, bytes-of, bytes-are}
 use Rattle.well_formed.specs.Laws.Shapes.{and-left, and-right}

@@ -5,7 +5,7 @@ use mathlib.Core.List.{[], _∷_}
 use Rattle.syntax.specs.Tree.{Ad}
 use Rattle.lexemes.specs.Lexeme.{isName}
 use Rattle.ad.specs.Layout.{Named}
-use Rattle.well_formed.specs.WellFormed.{isWritable, areWritable, Bounded}
+use Rattle.round_trip.specs.Bounded.{isWritable, areWritable, Bounded}
 use Rattle.well_formed.specs.Laws.Shapes.{and-left, and-right}
 use Rattle.well_formed.specs.Laws.Definitions.{name-some}
 

@@ -20,7 +20,7 @@ use Rattle.syntax.specs.declared.Unary.the-variants.{Not, Plus, Minus}
 use Rattle.lexemes.specs.Lexeme.{isName, isReal, isLiteral}
 use Rattle.lexemes.specs.Laws.Digits.{decimal-short, real-short}
 use Rattle.ad.specs.Layout.{literalBytes, exprBytes, adBytes}
-use Rattle.well_formed.specs.WellFormed.{isWritable, areWritable}
+use Rattle.round_trip.specs.Bounded.{isWritable, areWritable}
 use Rattle.well_formed.specs.Decode.{rowsLength}
 use Rattle.well_formed.specs.Laws.Shapes.{and-left, and-right}
 

@@ -9,13 +9,14 @@ use lib.ListN.{length, getD, take, drop, replicate, length-append, length-take, 
 use lib.Seq.{drop-at, take-at, drop-drop, getD-drop, drop-append-seam, take-append-add}
 use borrow.Author.Tests.{eqb-true}
 use Rattle.syntax.specs.Tree.{Definition, Ad, size, nodes}
-use Rattle.syntax.specs.Grammar.{defined, NewAfter, Distinct}
+use Rattle.syntax.specs.Grammar.{defined, NewAfter, Distinct, Within}
 use Rattle.lexemes.specs.Lexeme.{every}
 use Rattle.ad.specs.Layout.{exprBytes, adBytes, adNodes, adDefinitions, storedWords, storedBytes}
 use Rattle.ad.specs.Stored.{offsetAt, lengthAt, bytesAt, definedIn}
 use Rattle.ad.specs.Laws.Content.{length-ad}
 use Rattle.ad.specs.Laws.Names.{names-in}
 use Rattle.well_formed.specs.WellFormed.{Holds}
+use Rattle.well_formed.specs.Laws.Bounds.{bounded, holds}
 use Rattle.well_formed.specs.Decode.{all, adAt, newFrom, isZero, zeroBehind}
 use Rattle.well_formed.specs.Laws.Runs.{Stands, stands-at, stands-as, stands-front, stands-left, stands-right, stands-inside, bytes-are}
 use Rattle.well_formed.specs.Laws.Shapes.{and-left, and-right, and-both}
@@ -137,16 +138,10 @@ module _ (w b : List ℕ) (hw : length w ≡ 4864) (hb : length b ≡ 16384) whe
       let e₁ : take (4096 - length N) (drop (0 + length N) w) ≡ replicate (4096 - length N) 0 = subst (λ (k : ℕ). take (4096 - k) (drop (0 + k) w) ≡ replicate (4096 - k) 0) (sym lN) (ap (λ (k : ℕ). take (4096 - 4 * nodes a) (drop k w)) (zero-add (4 * nodes a)) ∙ z .nodes-zero) in
       let e₂ : drop (4096 + length D) w ≡ replicate (768 - length D) 0 = subst (λ (k : ℕ). drop (4096 + k) w ≡ replicate (768 - k) 0) (sym lD) (z .entries-zero) in
       let fits : length (adBytes a) ≤ 16384 = inside (adBytes a) (t .bytes) in
-      record {
-        bounded = record {
-          within = record { few-definitions = few; few-nodes = small; distinct = distinct-of w b a (t .entries) (t .bytes) new };
-          writable = t .writable;
-          shallow = t .shallow;
-        };
-        fits = fits;
-        words = table-words 4096 768 N D (omega arith) (t .words .is) e₁ (t .entries .is ∙ ap (_++_ D) e₂);
-        bytes = t .bytes .is ∙ ap (_++_ (adBytes a)) (ap (λ (k : ℕ). drop k b) (zero-add (length (adBytes a))) ∙ z .bytes-zero);
-      }
+      let within : Within a = record { few-definitions = few; few-nodes = small; distinct = distinct-of w b a (t .entries) (t .bytes) new } in
+      holds (record { within = within; writable = t .writable; shallow = t .shallow }) fits
+      (table-words 4096 768 N D (omega arith) (t .words .is) e₁ (t .entries .is ∙ ap (_++_ D) e₂))
+      (t .bytes .is ∙ ap (_++_ (adBytes a)) (ap (λ (k : ℕ). drop k b) (zero-add (length (adBytes a))) ∙ z .bytes-zero))
     where
       inside : (l : List ℕ) → Stands b 0 l → length l ≤ 16384
       inside [] h = omega arith
@@ -162,14 +157,15 @@ module _ (w b : List ℕ) (hw : length w ≡ 4864) (hb : length b ≡ 16384) whe
       let B = adBytes a in
       let lN = length-ad 0 0 a in
       let lD = length-entries 0 0 a in
-      let few : nodes a ≤ 1024 = h .bounded .within .few-nodes in
-      let small : length a ≤ 256 = h .bounded .within .few-definitions in
+      let g = bounded h in
+      let few : nodes a ≤ 1024 = g .within .few-nodes in
+      let small : length a ≤ 256 = g .within .few-definitions in
       let fits : length B ≤ 16384 = h .fits in
       let x = split-words 4096 768 N D (omega arith) (h .words) in
       let y : drop (length B) b ≡ replicate (16384 - length B) 0 = ap (drop (length B)) (h .bytes) ∙ drop-append-seam B (replicate (16384 - length B) 0) in (
         record {
-          writable = h .bounded .writable;
-          shallow = h .bounded .shallow;
+          writable = g .writable;
+          shallow = g .shallow;
           few = omega arith;
           words = stands-front w N _ 0 (h .words ∙ append-assoc N (replicate (4096 - length N) 0) (D ++ replicate (768 - length D) 0));
           entries = stands-front w D (replicate (768 - length D) 0) 4096 (x .1);
@@ -223,10 +219,11 @@ module _ (w b : List ℕ) (hw : length w ≡ 4864) (hb : length b ≡ 16384) whe
   pub holds-found : (a : Ad) → Holds w b a → (adAt 256 w b 0 0 0 ≡ all a) × ((newFrom w b 0 (length a) && zeroBehind w b (length a) (nodes a) (length (adBytes a))) ≡ true)
   holds-found a h =
       let x = holds-table a h in
+      let g = bounded h .within in
       let t = x .0 in
       let z = x .1 in (
-        ad-complete a 256 w b 0 0 0 t (h .bounded .within .few-definitions) (λ lt. stop-zero (length a) (nodes a) (length (adBytes a)) z lt),
-        and-both (of-distinct w b a (t .entries) (t .bytes) (h .bounded .within .distinct)) (of-zeros (length a) (nodes a) (length (adBytes a)) z),
+        ad-complete a 256 w b 0 0 0 t (g .few-definitions) (λ lt. stop-zero (length a) (nodes a) (length (adBytes a)) z lt),
+        and-both (of-distinct w b a (t .entries) (t .bytes) (g .distinct)) (of-zeros (length a) (nodes a) (length (adBytes a)) z),
       )
 
   -- an ad that is found and passes both tests is what the memory holds
@@ -247,8 +244,8 @@ unfolding storedWords storedBytes
 holds-long {w} {b} a h =
     let N = adNodes 0 0 a in
     let D = adDefinitions 0 0 a in
-    let f = h .bounded .within .few-nodes in
-    let g = h .bounded .within .few-definitions in
+    let f = bounded h .within .few-nodes in
+    let g = bounded h .within .few-definitions in
     let p = padded-long 4096 N (omega (arith, length-ad 0 0 a)) in
     let q = padded-long 768 D (omega (arith, length-entries 0 0 a)) in
     (ap length (h .words) ∙ (length-append (N ++ replicate (4096 - length N) 0) (D ++ replicate (768 - length D) 0) ∙ (omega arith)), ap length (h .bytes) ∙ padded-long 16384 (adBytes a) (h .fits))
