@@ -13,7 +13,7 @@
 //! - `evaluate`: values by memoised recursion over needs
 //! - `matching`: table, step, run, match
 //! - `components`: the same match by a linear search for loops, to be timed alone
-//! - `report`: the lines that the command prints
+//! - `report`, `phrase`: the lines that the command prints
 //! - `generate`, `rng`: seeded inputs and their coverage
 
 pub mod bounds;
@@ -24,6 +24,7 @@ pub mod evaluate;
 pub mod generate;
 pub mod graph;
 pub mod matching;
+pub mod phrase;
 pub mod print;
 pub mod read;
 pub mod refusal;

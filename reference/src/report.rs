@@ -1,6 +1,7 @@
 //! The lines that the command prints; docs/COMMANDS.md says the same in words.
 
 use crate::matching::Match;
+use crate::phrase::phrase;
 use crate::refusal::Refusal;
 use crate::tree::Ad;
 
@@ -16,7 +17,7 @@ pub fn accepted(file: &str, ad: &Ad) -> String {
 pub fn refused(file: &str, text: &[u8], refusal: &Refusal) -> String {
     let number = refusal.number();
     let place = refusal.place;
-    let phrase = refusal.reason.phrase();
+    let phrase = phrase(text, refusal);
     if !refusal.has_place() {
         return format!("{file}: refused {number} at {place}: {phrase}\n");
     }
