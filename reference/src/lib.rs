@@ -13,7 +13,7 @@
 //! - `evaluate`: values by memoised recursion over needs
 //! - `matching`: table, step, run, match
 //! - `components`: the same match by a linear search for loops, to be timed alone
-//! - `report`, `phrase`: the lines that the command prints
+//! - `report`, `phrase`, `show`: the lines that the command prints
 //! - `generate`, `rng`: seeded inputs and their coverage
 
 pub mod bounds;
@@ -30,6 +30,7 @@ pub mod read;
 pub mod refusal;
 pub mod report;
 pub mod rng;
+pub mod show;
 pub mod token;
 pub mod tree;
 pub mod value;

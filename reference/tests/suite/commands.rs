@@ -104,7 +104,13 @@ fn match_command() {
     let short = answer(&["match", &first, &second, "5"], b"");
     assert_eq!(short, ("not done\nsteps 5 of 6\n".to_string(), 1));
     let unmatched = answer(&["match", "-", &second], b"[Rank = other.w]");
-    let lines = "unmatched\nfirst rank 60\nsecond rank 0\nsteps 3 of 3\n";
+    let lines =
+        "unmatched\nfirst ad has no Requirements\nfirst rank 60\nsecond rank 0\nsteps 3 of 3\n";
+    assert_eq!(unmatched, (lines.to_string(), 1));
+    let first = file("no-requirements.ad", b"[Rank = 1 - 2]");
+    let unmatched = answer(&["match", &first, "-"], b"[Requirements = other.gone]");
+    let lines = "unmatched\nfirst ad has no Requirements\nsecond Requirements is undefined\n\
+                 first rank 0\nsecond rank 0\nsteps 4 of 4\n";
     assert_eq!(unmatched, (lines.to_string(), 1));
     // Both refusals are shown.
     let bad = file("bad.ad", b"[;]");

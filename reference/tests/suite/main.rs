@@ -11,6 +11,7 @@ mod printing;
 mod reading;
 mod reals;
 mod refusals;
+mod showing;
 mod tables;
 mod trees;
 mod values;
