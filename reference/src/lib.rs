@@ -14,6 +14,7 @@
 //! - `matching`: table, step, run, match
 //! - `components`: the same match by a linear search for loops, to be timed alone
 //! - `report`, `phrase`, `show`: the lines that the command prints
+//! - `graphviz`: the references between two ads' definitions, to be drawn
 //! - `generate`, `rng`: seeded inputs and their coverage
 
 pub mod bounds;
@@ -23,6 +24,7 @@ pub mod components;
 pub mod evaluate;
 pub mod generate;
 pub mod graph;
+pub mod graphviz;
 pub mod matching;
 pub mod phrase;
 pub mod print;

@@ -1,5 +1,6 @@
 //! The lines of the command, as docs/COMMANDS.md gives them.
 
+use crate::graphviz::{EXAMPLE, EXAMPLE_GRAPH};
 use std::io::Write;
 use std::process::{Command, Output, Stdio};
 
@@ -120,9 +121,45 @@ fn match_command() {
 }
 
 #[test]
+fn graph_command() {
+    let first = file("graph-first.ad", EXAMPLE[0].as_bytes());
+    let second = file("graph-second.ad", EXAMPLE[1].as_bytes());
+    let expected = (EXAMPLE_GRAPH.to_string(), 0);
+    assert_eq!(answer(&["graph", &first, &second], b""), expected);
+    let input = EXAMPLE[1].as_bytes();
+    assert_eq!(answer(&["graph", &first, "-"], input), expected);
+    let input = EXAMPLE[0].as_bytes();
+    assert_eq!(answer(&["graph", "-", &second], input), expected);
+}
+
+/// The lines of what is refused and nothing else, as `match` has them.
+#[test]
+fn graph_of_refused_texts() {
+    let fine = file("graph-fine.ad", b"[a = 1]");
+    let bad = file("graph-bad.ad", b"[a = \"\\x\"]");
+    let first = format!(
+        "{bad}: refused 3 at 5 (line 1, column 6): bad escape in a string\n\
+         [a = \"\\x\"]\n     ^\n"
+    );
+    let second = "-: refused 4 at 2 (line 2, column 1): text ends early\n\n^\n";
+    for command in ["graph", "match"] {
+        let refused = answer(&[command, &bad, &fine], b"");
+        assert_eq!(refused, (first.clone(), 1));
+        let refused = answer(&[command, &fine, "-"], b"[\n");
+        assert_eq!(refused, (second.to_string(), 1));
+        let refused = answer(&[command, &bad, "-"], b"[\n");
+        assert_eq!(refused, (format!("{first}{second}"), 1));
+        let refused = answer(&[command, "-", &bad], b"[\n");
+        assert_eq!(refused, (format!("{second}{first}"), 1));
+    }
+    let refused = answer(&["print", &bad], b"");
+    assert_eq!(refused, (first, 1));
+}
+
+#[test]
 fn usage_and_input_errors() {
     let second = file("fine.ad", b"[]");
-    let cases: [&[&str]; 10] = [
+    let cases: [&[&str]; 15] = [
         &[],
         &["read"],
         &["read", "-", "-"],
@@ -131,6 +168,11 @@ fn usage_and_input_errors() {
         &["match", &second, &second, "65536"],
         &["match", &second, &second, "+1"],
         &["match", &second, &second, ""],
+        &["graph"],
+        &["graph", &second],
+        &["graph", "-", "-"],
+        &["graph", &second, &second, "1"],
+        &["graph", &second, "no such file"],
         &["read", "no such file"],
         &["generate", "x", "1"],
     ];

@@ -6,6 +6,7 @@ mod components;
 mod examples;
 mod generated;
 mod graphs;
+mod graphviz;
 mod phrases;
 mod printing;
 mod reading;
