@@ -45,7 +45,7 @@ fn reals_of_every_form() {
 fn fewest_digits_that_read_back() {
     let examples = [
         // Two numbers of so few digits are equally close.
-        (1113178120592002.25, "1113178120592002.3"),
+        (1113178120592002.0 + 0.25, "1113178120592002.3"),
         // The closest number of 16 digits reads back as another float.
         (2_f64.powi(-44), "5.684341886080802e-14"),
         (f64::from_bits(1), "5.0e-324"),

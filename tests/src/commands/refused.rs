@@ -35,7 +35,8 @@ pub fn text(rng: &mut Rng) -> Vec<u8> {
 
 /// Blanks, line ends among them.
 fn blanks(rng: &mut Rng) -> &'static str {
-    *rng.pick(&["", "", " ", "\t", "\n", "\r\n", " \n\n  "])
+    let all = ["", "", " ", "\t", "\n", "\r\n", " \n\n  "];
+    all[rng.below(all.len())]
 }
 
 /// The beginning of an ad, up to where an expression starts.
