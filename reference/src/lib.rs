@@ -13,7 +13,8 @@
 //! - `evaluate`: values by memoised recursion over needs
 //! - `matching`: table, step, run, match
 //! - `components`: the same match by a linear search for loops, to be timed alone
-//! - `report`: the lines that the command prints
+//! - `report`, `phrase`, `show`: the lines that the command prints
+//! - `graphviz`: the references between two ads' definitions, to be drawn
 //! - `generate`, `rng`: seeded inputs and their coverage
 
 pub mod bounds;
@@ -23,12 +24,15 @@ pub mod components;
 pub mod evaluate;
 pub mod generate;
 pub mod graph;
+pub mod graphviz;
 pub mod matching;
+pub mod phrase;
 pub mod print;
 pub mod read;
 pub mod refusal;
 pub mod report;
 pub mod rng;
+pub mod show;
 pub mod token;
 pub mod tree;
 pub mod value;

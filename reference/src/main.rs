@@ -4,6 +4,7 @@ use reference::bounds;
 use reference::generate::coverage::Coverage;
 use reference::generate::{budgets, Body, Generator};
 use reference::graph::Pair;
+use reference::graphviz::graphviz;
 use reference::matching::match_ads;
 use reference::print::print;
 use reference::read::read;
@@ -17,11 +18,12 @@ use std::process::ExitCode;
 const USAGE: &str = "usage: reference read FILE
        reference print FILE
        reference match FIRST SECOND [BUDGET]
+       reference graph FIRST SECOND
        reference generate SEED COUNT [DIRECTORY]
 FILE, FIRST and SECOND may be - for standard input, at most once.
 ";
 
-/// Matched or accepted.
+/// Matched, accepted or written.
 const GOOD: u8 = 0;
 /// Unmatched, not done or refused.
 const BAD: u8 = 1;
@@ -39,6 +41,7 @@ fn main() -> ExitCode {
         ["print", file] => print_command(file),
         ["match", first, second] => match_command(first, second, "65535"),
         ["match", first, second, budget] => match_command(first, second, budget),
+        ["graph", first, second] => graph_command(first, second),
         ["generate", seed, count] => generate_command(seed, count, None),
         ["generate", seed, count, directory] => generate_command(seed, count, Some(directory)),
         _ => Err(USAGE.to_string()),
@@ -102,23 +105,35 @@ fn print_command(file: &str) -> Answer {
     })
 }
 
-fn match_command(first: &str, second: &str, budget: &str) -> Answer {
+/// The two ads of a pair, or the lines of what is refused, the first's before the second's.
+fn pair_of(first: &str, second: &str) -> Result<Result<(Ad, Ad), String>, String> {
     if first == "-" && second == "-" {
         return Err(USAGE.to_string());
     }
+    Ok(match (ad_of(first)?, ad_of(second)?) {
+        (Ok(first), Ok(second)) => Ok((first, second)),
+        (first, second) => Err(first.err().unwrap_or_default() + &second.err().unwrap_or_default()),
+    })
+}
+
+fn match_command(first: &str, second: &str, budget: &str) -> Answer {
     let budget = budget_of(budget)?;
-    let (first, second) = match (ad_of(first)?, ad_of(second)?) {
-        (Ok(first), Ok(second)) => (first, second),
-        (first, second) => {
-            let lines = first.err().unwrap_or_default() + &second.err().unwrap_or_default();
-            return Ok((lines.into_bytes(), BAD));
-        }
+    let (first, second) = match pair_of(first, second)? {
+        Ok(ads) => ads,
+        Err(lines) => return Ok((lines.into_bytes(), BAD)),
     };
     let result = match_ads(&first, &second, budget)
         .map_err(|refusal| format!("reference: a text that was read is refused: {refusal:?}\n"))?;
     let matched = result.verdict.is_some_and(|verdict| verdict.matched);
     let status = if matched { GOOD } else { BAD };
     Ok((report::matched(&result).into_bytes(), status))
+}
+
+fn graph_command(first: &str, second: &str) -> Answer {
+    Ok(match pair_of(first, second)? {
+        Ok((first, second)) => (graphviz(&first, &second).into_bytes(), GOOD),
+        Err(lines) => (lines.into_bytes(), BAD),
+    })
 }
 
 /// 01: "Budgets are 16-bit numbers, 0 to 65,535." Digits alone, no sign.

@@ -81,6 +81,15 @@ pub struct Match<'a> {
     pub steps: usize,
     pub order: Vec<NodeId>,
     pub table: Table<'a>,
+    /// By side: the root of Requirements, where the ad has one.
+    pub requirement_roots: [Option<NodeId>; 2],
+}
+
+impl<'a> Match<'a> {
+    /// What the Requirements of a side gave; nothing where there is none.
+    pub fn requirements(&self, side: usize) -> Slot<'a> {
+        self.requirement_roots[side].and_then(|root| self.table.get(root))
+    }
 }
 
 pub fn match_ads<'a>(first: &'a Ad, second: &'a Ad, budget: u16) -> Result<Match<'a>, Refusal> {
@@ -116,6 +125,7 @@ pub fn match_pair<'a>(pair: &Pair<'a>, budget: u16) -> Match<'a> {
         steps,
         order,
         table,
+        requirement_roots: [0, 1].map(|side| pair.definition_root(side, b"Requirements")),
     }
 }
 

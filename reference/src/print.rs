@@ -124,7 +124,7 @@ fn put_real(digits: u64, places: usize, text: &mut Vec<u8>) {
     text.extend(after.as_bytes());
 }
 
-fn put_string(content: &[u8], text: &mut Vec<u8>) {
+pub fn put_string(content: &[u8], text: &mut Vec<u8>) {
     text.push(b'"');
     for &byte in content {
         match bytes::escape_letter(byte) {

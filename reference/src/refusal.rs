@@ -45,23 +45,6 @@ impl Reason {
     pub fn number(self) -> usize {
         self as usize
     }
-
-    /// The phrase that the commands print.
-    pub fn phrase(self) -> &'static str {
-        match self {
-            Reason::RoomTooSmall => "memory too small",
-            Reason::TextTooLong => "text over 16,384 bytes",
-            Reason::BadToken => "no token starts here, or a bad or unclosed string",
-            Reason::DoesNotFit => "token does not fit here",
-            Reason::NumberTooLarge => "Integer over 2,147,483,647 or Real over 15 digits",
-            Reason::TooDeep => "nested deeper than level 64",
-            Reason::TokenTooLong => "name over 64 bytes or string over 1,024 bytes",
-            Reason::DefinedTwice => "name defined twice",
-            Reason::TooMany => "over 256 definitions or over 1,024 nodes",
-            Reason::NotWellFormed => "stored ad is not well formed",
-            Reason::PrintTooLong => "printed text over 16,384 bytes",
-        }
-    }
 }
 
 /// 01: "A refusal carries its number and a place, 0 for 1, 2, 10 and 11."

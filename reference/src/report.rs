@@ -1,8 +1,14 @@
 //! The lines that the command prints; docs/COMMANDS.md says the same in words.
 
 use crate::matching::Match;
+use crate::phrase::phrase;
 use crate::refusal::Refusal;
+use crate::show;
 use crate::tree::Ad;
+use crate::value::Value;
+
+/// What the sides are called.
+pub const SIDES: [&str; 2] = ["first", "second"];
 
 /// `FILE: accepted, D definitions, N nodes`
 pub fn accepted(file: &str, ad: &Ad) -> String {
@@ -16,7 +22,7 @@ pub fn accepted(file: &str, ad: &Ad) -> String {
 pub fn refused(file: &str, text: &[u8], refusal: &Refusal) -> String {
     let number = refusal.number();
     let place = refusal.place;
-    let phrase = refusal.reason.phrase();
+    let phrase = phrase(text, refusal);
     if !refusal.has_place() {
         return format!("{file}: refused {number} at {place}: {phrase}\n");
     }
@@ -57,19 +63,29 @@ fn shown_byte(byte: u8) -> char {
     }
 }
 
-/// `matched`, `unmatched` or `not done`; where finished the two ranks; the steps.
+/// `matched`, `unmatched` or `not done`; where unmatched the reasons; where finished the
+/// two ranks; the steps.
 pub fn matched(result: &Match) -> String {
     let steps = format!("steps {} of {}\n", result.steps, result.order.len());
-    match result.verdict {
-        None => format!("not done\n{steps}"),
-        Some(verdict) => {
-            let word = if verdict.matched {
-                "matched"
-            } else {
-                "unmatched"
-            };
-            let (first, second) = (verdict.first_rank, verdict.second_rank);
-            format!("{word}\nfirst rank {first}\nsecond rank {second}\n{steps}")
-        }
+    let Some(verdict) = result.verdict else {
+        return format!("not done\n{steps}");
+    };
+    let word = if verdict.matched {
+        "matched"
+    } else {
+        "unmatched"
+    };
+    let reasons = untrue(0, result) + &untrue(1, result);
+    let (first, second) = (verdict.first_rank, verdict.second_rank);
+    format!("{word}\n{reasons}first rank {first}\nsecond rank {second}\n{steps}")
+}
+
+/// The line of a side whose Requirements is not true; none where it is.
+fn untrue(side: usize, result: &Match) -> String {
+    let name = SIDES[side];
+    match result.requirements(side) {
+        Some(Value::Boolean(true)) => String::new(),
+        Some(value) => format!("{name} Requirements is {}\n", show::value(value)),
+        None => format!("{name} ad has no Requirements\n"),
     }
 }

@@ -11,7 +11,7 @@ pub struct Cases {
     pub name: &'static str,
     pub seed: u64,
     from: u64,
-    count: u64,
+    pub count: u64,
 }
 
 impl Cases {

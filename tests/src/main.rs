@@ -32,7 +32,7 @@ NAME is values, reading, checking, printing, dependencies, matching, boundary or
 COUNT cases of SEED, from number FROM on (0 without it); for all of them COUNT is shared out.
 ";
 
-/// All compared and no difference; some difference, or nothing compared; a wrong command line.
+/// All compared and no difference; some difference, or too little compared; a wrong command line.
 const SAME: u8 = 0;
 const DIFFERENT: u8 = 1;
 const FAULT: u8 = 2;

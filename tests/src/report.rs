@@ -33,12 +33,22 @@ impl Table {
         &self.counts[row * width..(row + 1) * width]
     }
 
+    /// The rows in which nothing was counted.
+    fn empty_rows(&self) -> Vec<&'static str> {
+        let rows = self.rows.iter().enumerate();
+        let empty = rows.filter(|(row, _)| self.row(*row).iter().all(|&count| count == 0));
+        empty.map(|(_, name)| *name).collect()
+    }
+
     fn text(&self) -> String {
-        let mut text = format!("{:<22}{}\n", self.title, cells(&self.columns, "all"));
+        let longest = self.rows.iter().map(|name| name.len()).max().unwrap_or(0);
+        let (width, title_width) = (longest.max(20), longest.max(20) + 2);
+        let head = cells(&self.columns, "all");
+        let mut text = format!("{:<title_width$}{head}\n", self.title);
         for (row, name) in self.rows.iter().enumerate() {
             let counts = self.row(row);
             let all = counts.iter().sum::<u64>();
-            writeln!(text, "  {name:<20}{}", cells(counts, all)).unwrap();
+            writeln!(text, "  {name:<width$}{}", cells(counts, all)).unwrap();
         }
         text
     }
@@ -58,6 +68,8 @@ pub struct Report {
     different: u64,
     /// For each row of the first table, how many differences it had.
     by_row: Vec<usize>,
+    /// How many things that had to come up did not.
+    gaps: usize,
     shown: String,
 }
 
@@ -72,6 +84,7 @@ impl Report {
             compared: 0,
             different: 0,
             by_row,
+            gaps: 0,
             shown: String::new(),
         }
     }
@@ -111,9 +124,18 @@ impl Report {
         writeln!(self.shown, "{line}").unwrap();
     }
 
-    /// A run that compared nothing is not good either.
+    /// Every row of this table must have come up: a line for each that did not.
+    pub fn require_rows(&mut self, table: usize) {
+        let title = self.tables[table].title;
+        for row in self.tables[table].empty_rows() {
+            self.gaps += 1;
+            self.note(&format!("{title}: {row} never came up"));
+        }
+    }
+
+    /// A run that compared nothing, or not all that it must, is not good either.
     pub fn good(&self) -> bool {
-        self.compared > 0 && self.different == 0
+        self.compared > 0 && self.different == 0 && self.gaps == 0
     }
 
     pub fn text(&self) -> String {

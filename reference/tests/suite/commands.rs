@@ -1,5 +1,6 @@
 //! The lines of the command, as docs/COMMANDS.md gives them.
 
+use crate::graphviz::{EXAMPLE, EXAMPLE_GRAPH};
 use std::io::Write;
 use std::process::{Command, Output, Stdio};
 
@@ -47,8 +48,8 @@ fn read_refused() {
         lines
     };
     let lines = refused(b"[a = 1;\n\tb = \"\xE4\";]\n");
-    let expected = "-: refused 3 at 13 (line 2, column 6): \
-                    no token starts here, or a bad or unclosed string\n b = \"?\";]\n     ^\n";
+    let expected = "-: refused 3 at 13 (line 2, column 6): bad byte in a string\n\
+                    \x20b = \"?\";]\n     ^\n";
     assert_eq!(lines, expected);
     let lines = refused(b"[a = 1 2]");
     let expected = "-: refused 4 at 7 (line 1, column 8): token does not fit here\n\
@@ -56,38 +57,20 @@ fn read_refused() {
     assert_eq!(lines, expected);
     // The place at the text's length: behind the last line, or on an empty line.
     let lines = refused(b"[a = 1");
-    let expected = "-: refused 4 at 6 (line 1, column 7): token does not fit here\n\
+    let expected = "-: refused 4 at 6 (line 1, column 7): text ends early\n\
                     [a = 1\n      ^\n";
     assert_eq!(lines, expected);
     let lines = refused(b"[a = 1\r\n");
-    let expected = "-: refused 4 at 8 (line 2, column 1): token does not fit here\n\n^\n";
+    let expected = "-: refused 4 at 8 (line 2, column 1): text ends early\n\n^\n";
     assert_eq!(lines, expected);
     let lines = refused(b"");
     assert_eq!(
         lines,
-        "-: refused 4 at 0 (line 1, column 1): token does not fit here\n\n^\n"
+        "-: refused 4 at 0 (line 1, column 1): text ends early\n\n^\n"
     );
     // A place of 0 by rule has no line and no caret.
     let lines = refused(&[b' '; 16_385]);
     assert_eq!(lines, "-: refused 2 at 0: text over 16,384 bytes\n");
-}
-
-#[test]
-fn phrases() {
-    let phrase = |text: &str| {
-        let (lines, _) = answer(&["read", "-"], text.as_bytes());
-        let first = lines.lines().next().unwrap().to_string();
-        first.split("): ").nth(1).unwrap().to_string()
-    };
-    let expected = "Integer over 2,147,483,647 or Real over 15 digits";
-    assert_eq!(phrase("[a=2147483648]"), expected);
-    let expected = "nested deeper than level 64";
-    assert_eq!(phrase(&format!("[a={}1]", "-".repeat(65))), expected);
-    let expected = "name over 64 bytes or string over 1,024 bytes";
-    assert_eq!(phrase(&format!("[{}=1]", "n".repeat(65))), expected);
-    assert_eq!(phrase("[a=1;a=1]"), "name defined twice");
-    let expected = "over 256 definitions or over 1,024 nodes";
-    assert_eq!(phrase(&format!("[a=1{}]", "+1".repeat(512))), expected);
 }
 
 #[test]
@@ -122,7 +105,13 @@ fn match_command() {
     let short = answer(&["match", &first, &second, "5"], b"");
     assert_eq!(short, ("not done\nsteps 5 of 6\n".to_string(), 1));
     let unmatched = answer(&["match", "-", &second], b"[Rank = other.w]");
-    let lines = "unmatched\nfirst rank 60\nsecond rank 0\nsteps 3 of 3\n";
+    let lines =
+        "unmatched\nfirst ad has no Requirements\nfirst rank 60\nsecond rank 0\nsteps 3 of 3\n";
+    assert_eq!(unmatched, (lines.to_string(), 1));
+    let first = file("no-requirements.ad", b"[Rank = 1 - 2]");
+    let unmatched = answer(&["match", &first, "-"], b"[Requirements = other.gone]");
+    let lines = "unmatched\nfirst ad has no Requirements\nsecond Requirements is undefined\n\
+                 first rank 0\nsecond rank 0\nsteps 4 of 4\n";
     assert_eq!(unmatched, (lines.to_string(), 1));
     // Both refusals are shown.
     let bad = file("bad.ad", b"[;]");
@@ -132,9 +121,45 @@ fn match_command() {
 }
 
 #[test]
+fn graph_command() {
+    let first = file("graph-first.ad", EXAMPLE[0].as_bytes());
+    let second = file("graph-second.ad", EXAMPLE[1].as_bytes());
+    let expected = (EXAMPLE_GRAPH.to_string(), 0);
+    assert_eq!(answer(&["graph", &first, &second], b""), expected);
+    let input = EXAMPLE[1].as_bytes();
+    assert_eq!(answer(&["graph", &first, "-"], input), expected);
+    let input = EXAMPLE[0].as_bytes();
+    assert_eq!(answer(&["graph", "-", &second], input), expected);
+}
+
+/// The lines of what is refused and nothing else, as `match` has them.
+#[test]
+fn graph_of_refused_texts() {
+    let fine = file("graph-fine.ad", b"[a = 1]");
+    let bad = file("graph-bad.ad", b"[a = \"\\x\"]");
+    let first = format!(
+        "{bad}: refused 3 at 5 (line 1, column 6): bad escape in a string\n\
+         [a = \"\\x\"]\n     ^\n"
+    );
+    let second = "-: refused 4 at 2 (line 2, column 1): text ends early\n\n^\n";
+    for command in ["graph", "match"] {
+        let refused = answer(&[command, &bad, &fine], b"");
+        assert_eq!(refused, (first.clone(), 1));
+        let refused = answer(&[command, &fine, "-"], b"[\n");
+        assert_eq!(refused, (second.to_string(), 1));
+        let refused = answer(&[command, &bad, "-"], b"[\n");
+        assert_eq!(refused, (format!("{first}{second}"), 1));
+        let refused = answer(&[command, "-", &bad], b"[\n");
+        assert_eq!(refused, (format!("{second}{first}"), 1));
+    }
+    let refused = answer(&["print", &bad], b"");
+    assert_eq!(refused, (first, 1));
+}
+
+#[test]
 fn usage_and_input_errors() {
     let second = file("fine.ad", b"[]");
-    let cases: [&[&str]; 10] = [
+    let cases: [&[&str]; 15] = [
         &[],
         &["read"],
         &["read", "-", "-"],
@@ -143,6 +168,11 @@ fn usage_and_input_errors() {
         &["match", &second, &second, "65536"],
         &["match", &second, &second, "+1"],
         &["match", &second, &second, ""],
+        &["graph"],
+        &["graph", &second],
+        &["graph", "-", "-"],
+        &["graph", &second, &second, "1"],
+        &["graph", &second, "no such file"],
         &["read", "no such file"],
         &["generate", "x", "1"],
     ];

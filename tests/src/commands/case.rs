@@ -1,10 +1,11 @@
 //! A command, its files and its budget.
 
+use super::{names, refused, untrue};
 use crate::pairs::Pair;
 use crate::reading::draw::{text_of, Texts};
 use crate::report::plain;
 use crate::stored::Samples;
-use reference::generate::{budgets, damage, matches};
+use reference::generate::{budgets, damage, loops, matches};
 use reference::graph;
 use reference::read::read;
 use reference::rng::Rng;
@@ -17,10 +18,11 @@ pub enum Command {
     Print,
     Match,
     Trace,
+    Graph,
 }
 
 /// Their words, in order.
-pub const COMMANDS: [&str; 4] = ["check", "print", "match", "trace"];
+pub const COMMANDS: [&str; 5] = ["check", "print", "match", "trace", "graph"];
 
 /// How much of a text is shown.
 const SHOWN: usize = 400;
@@ -39,10 +41,11 @@ pub struct Case {
 impl Case {
     pub fn draw(rng: &mut Rng, texts: &Texts, stored: &Samples) -> Case {
         let command = match rng.below(20) {
-            0..=5 => Command::Check,
-            6..=9 => Command::Print,
-            10..=14 => Command::Match,
-            _ => Command::Trace,
+            0..=4 => Command::Check,
+            5..=7 => Command::Print,
+            8..=11 => Command::Match,
+            12..=15 => Command::Trace,
+            _ => Command::Graph,
         };
         let texts = match command {
             Command::Check => {
@@ -51,8 +54,9 @@ impl Case {
             }
             Command::Print => vec![one_text(rng, texts, stored)],
             Command::Match | Command::Trace => pair(rng, stored),
+            Command::Graph => pair_to_draw(rng, stored),
         };
-        let names = names(rng, texts.len());
+        let names = file_names(rng, texts.len());
         let takes_budget = matches!(command, Command::Match | Command::Trace);
         let budget = if takes_budget {
             budget(rng, &texts)
@@ -102,48 +106,72 @@ impl Case {
     }
 }
 
-fn names(rng: &mut Rng, count: usize) -> Vec<&'static str> {
+fn file_names(rng: &mut Rng, count: usize) -> Vec<&'static str> {
     let turn = rng.below(NAMES.len());
     let names = NAMES.iter().cycle().skip(turn);
     names.copied().take(count).collect()
 }
 
-/// Many at the bounds, where the rarer refusals are.
+/// Many at the bounds, where the rarer refusals are, and many refused for one cause.
 fn any_text(rng: &mut Rng, texts: &Texts) -> Vec<u8> {
-    if rng.chance(40) {
-        texts.edge(rng)
-    } else {
-        texts.draw(rng).text
+    match rng.below(10) {
+        0..=2 => texts.edge(rng),
+        3..=5 => refused::text(rng),
+        _ => texts.draw(rng).text,
     }
 }
 
-/// A text of any kind, or that of an ad, whose print may be too long.
+/// A text of any kind, one whose print is too long, or that of an ad.
 fn one_text(rng: &mut Rng, texts: &Texts, stored: &Samples) -> Vec<u8> {
-    if rng.chance(30) {
-        return any_text(rng, texts);
+    match rng.below(20) {
+        0..=5 => any_text(rng, texts),
+        6 => refused::long_print(rng),
+        _ => {
+            let (_, sample) = stored.draw(rng, 0);
+            text_of(rng, &sample.ad)
+        }
     }
-    let (_, sample) = stored.draw(rng, 0);
-    text_of(rng, &sample.ad)
 }
 
-/// Two ads' texts, half of them made for matching, now and then a damaged one.
+/// Two ads' texts, many of them made for matching, now and then one that is refused.
 fn pair(rng: &mut Rng, stored: &Samples) -> Vec<Vec<u8>> {
-    if rng.chance(15) {
-        return vec![reals(rng), reals(rng)];
-    }
-    let ads = if rng.chance(50) {
-        let (first, second) = matches::match_pair(rng);
-        [first, second]
-    } else {
-        Pair::draw(rng, stored).1.samples.map(|sample| sample.ad)
-    };
-    let each = ads.iter().map(|ad| {
-        let text = text_of(rng, ad);
-        if rng.chance(8) {
-            damage::damaged(rng, &text).1
-        } else {
-            text
+    let texts = match rng.below(20) {
+        0..=1 => vec![reals(rng), reals(rng)],
+        2..=8 => untrue::pair(rng),
+        9..=13 => {
+            let (first, second) = matches::match_pair(rng);
+            vec![text_of(rng, &first), text_of(rng, &second)]
         }
+        _ => stored_pair(rng, stored),
+    };
+    some_refused(rng, texts)
+}
+
+/// The same for a graph: names that are found, circular or absent.
+fn pair_to_draw(rng: &mut Rng, stored: &Samples) -> Vec<Vec<u8>> {
+    let texts = match rng.below(10) {
+        0..=4 => names::pair(rng),
+        5..=6 => {
+            let (first, second) = loops::loop_pair(rng);
+            vec![text_of(rng, &first), text_of(rng, &second)]
+        }
+        _ => stored_pair(rng, stored),
+    };
+    some_refused(rng, texts)
+}
+
+fn stored_pair(rng: &mut Rng, stored: &Samples) -> Vec<Vec<u8>> {
+    let (_, pair) = Pair::draw(rng, stored);
+    let each = pair.samples.iter().map(|sample| text_of(rng, &sample.ad));
+    each.collect()
+}
+
+/// The texts, each of them at times damaged or another in its place.
+fn some_refused(rng: &mut Rng, texts: Vec<Vec<u8>>) -> Vec<Vec<u8>> {
+    let each = texts.into_iter().map(|text| match rng.below(100) {
+        0..=5 => damage::damaged(rng, &text).1,
+        6..=9 => refused::text(rng),
+        _ => text,
     });
     each.collect()
 }

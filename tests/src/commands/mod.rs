@@ -1,8 +1,12 @@
 //! The commands: on generated files, all programs that have a command print the same.
 
 mod case;
+mod names;
 mod programs;
+mod refused;
+mod shown;
 mod trace;
+mod untrue;
 
 use crate::cases::Cases;
 use crate::reading::draw::Texts;
@@ -20,15 +24,22 @@ const TRIES: usize = 300;
 /// By the status that docs/COMMANDS.md gives.
 const ANSWERS: [&str; 2] = ["status 0", "status 1"];
 
-/// The numbers that a command can show.
-const REFUSALS: [&str; 9] = ["2", "3", "4", "5", "6", "7", "8", "9", "11"];
+/// Places of tables in the report.
+const REFUSALS: usize = 2;
+const REQUIREMENTS: usize = 3;
+const ARROWS: usize = 4;
+
+/// So many cases must show every phrase, kind of value and kind of arrow.
+const ENOUGH: u64 = 1_600;
 
 pub fn run(cases: &Cases) -> Report {
     let names = PROGRAMS.map(|program| program.name);
     let tables = vec![
         Table::new("compared, by answer", &COMMANDS, &ANSWERS),
         Table::new("programs started", &COMMANDS, &names),
-        Table::new("refusals shown", &COMMANDS, &REFUSALS),
+        Table::new("refusals shown", &shown::PHRASES, &COMMANDS),
+        Table::new("untrue Requirements", &shown::VALUES, &shown::SIDES),
+        Table::new("arrows of graphs", &shown::ARROWS, &shown::SIDES),
     ];
     let mut report = Report::new(cases, tables);
     let built = built(&mut report);
@@ -45,10 +56,15 @@ pub fn run(cases: &Cases) -> Report {
         let outputs = outputs(&built, &case, &folder.path);
         let answer = usize::from(outputs[0].1.status != Some(0));
         let row = case.command as usize;
-        count_refusals(&mut report.tables[2], row, &outputs[0].1);
+        count_shown(&mut report.tables, row, &outputs[0].1);
         report.compare(index, row, answer, agree(&outputs), || {
             describe(&built, &case, &folder.path)
         });
+    }
+    if cases.count >= ENOUGH {
+        for table in [REFUSALS, REQUIREMENTS, ARROWS] {
+            report.require_rows(table);
+        }
     }
     report
 }
@@ -75,14 +91,20 @@ fn count_programs(table: &mut Table, case: &Case) {
     }
 }
 
-fn count_refusals(table: &mut Table, row: usize, output: &Output) {
+/// What the lines of an output show: causes of refusal, values of Requirements, arrows.
+fn count_shown(tables: &mut [Table], command: usize, output: &Output) {
     let text = String::from_utf8_lossy(&output.text);
-    let numbers = text.lines().filter_map(|line| {
-        let (_, rest) = line.split_once(": refused ")?;
-        let (number, _) = rest.split_once(" at ")?;
-        REFUSALS.iter().position(|refusal| *refusal == number)
-    });
-    numbers.for_each(|column| table.add(row, column));
+    for line in text.lines() {
+        if let Some(phrase) = shown::phrase(line) {
+            tables[REFUSALS].add(phrase, command);
+        }
+        if let Some((value, side)) = shown::untrue(line) {
+            tables[REQUIREMENTS].add(value, side);
+        }
+        if let Some((arrow, side)) = shown::arrow(line) {
+            tables[ARROWS].add(arrow, side);
+        }
+    }
 }
 
 /// What each program gives; for a trace first what should be given, as the second program has

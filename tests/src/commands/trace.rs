@@ -8,8 +8,8 @@ use reference::graph::NodeId;
 use reference::matching::{match_ads, Match};
 use reference::read::read;
 use reference::report;
-use reference::tree::{Ad, Expression, Literal};
-use reference::value::Value;
+use reference::show;
+use reference::tree::Ad;
 
 pub fn expected(case: &Case) -> Output {
     let [first, second] = [0, 1].map(|side| {
@@ -54,45 +54,18 @@ fn line(ad: &Ad, id: NodeId, result: &Match) -> Vec<u8> {
     if expression.len() > TEXT_BYTES {
         expression = b"(printed text over 16,384 bytes)".to_vec();
     }
-    let value = shown(result.table.get(id));
-    [side, name, b": ", &expression, b" -> ", &value, b"\n"].concat()
-}
-
-fn shown(value: Option<Value>) -> Vec<u8> {
-    let text = match value {
+    let value = match result.table.get(id) {
+        Some(value) => show::value(value),
         None => "blank".to_string(),
-        Some(Value::Undefined) => "undefined".to_string(),
-        Some(Value::Error) => "error".to_string(),
-        Some(Value::Boolean(value)) => value.to_string(),
-        Some(Value::Integer(value)) => value.to_string(),
-        Some(Value::Real(value)) => real(value),
-        Some(Value::String(value)) => {
-            let literal = Literal::String(value.bytes.to_vec());
-            return expression_text(&Expression::Literal(literal));
-        }
     };
-    text.into_bytes()
-}
-
-/// The shortest digits that read back: plain where the first one's exponent is -5 to 15.
-fn real(value: f64) -> String {
-    if value.is_nan() {
-        return "not-a-number".to_string();
-    }
-    if value.is_infinite() {
-        return if value > 0.0 { "infinity" } else { "-infinity" }.to_string();
-    }
-    let digits = format!("{value:e}");
-    let (digits, exponent) = digits.split_once('e').expect("an exponent");
-    if (-5..16).contains(&exponent.parse::<i32>().expect("a number")) {
-        with_point(&value.to_string())
-    } else {
-        format!("{}e{exponent}", with_point(digits))
-    }
-}
-
-/// At least one digit behind the point.
-fn with_point(digits: &str) -> String {
-    let behind = if digits.contains('.') { "" } else { ".0" };
-    format!("{digits}{behind}")
+    [
+        side,
+        name,
+        b": ",
+        &expression,
+        b" -> ",
+        value.as_bytes(),
+        b"\n",
+    ]
+    .concat()
 }
