@@ -2,7 +2,7 @@
 -- and b the bytes of an ad. Assumes nothing.
 use mathlib.Core.Bool.{Bool, true, false, cond, _||_}
 use mathlib.Core.List.{List, [], _∷_}
-use Prim.Native.Nat.{ℕ, zero, suc, _+_, _*_}
+use Prim.Native.Nat.{ℕ, zero, suc, _+_, _-_, _*_}
 use lib.ListN.{getD, take, drop}
 use lib.Dec.{eqb, ltb}
 use Rattle.text.specs.Strings.{sameName}
@@ -66,24 +66,13 @@ arity k = cond (ltb k 9) 0 (cond (ltb k 12) 1 (cond (eqb k 12) 3 (cond (ltb k 28
 unfoldable pub unaryOf : ℕ → Unary
 unaryOf k = pick (eqb k 9) (λ _. Not) (λ _. pick (eqb k 10) (λ _. Plus) (λ _. Minus))
 
--- the operator of two operands of a node of kind k: '`||`; `&&`; `== != is isnt`; ..' (docs/LAYOUT.md)
+-- the operators of two operands by the kinds of their nodes, from 13 on (docs/LAYOUT.md)
+abbrev pub binaries : List Binary
+binaries = Or ∷ And ∷ Equal ∷ NotEqual ∷ Is ∷ Isnt ∷ Less ∷ LessOrEqual ∷ Greater ∷ GreaterOrEqual ∷ Add ∷ Subtract ∷ Multiply ∷ Divide ∷ Remainder ∷ []
+
+-- the operator of two operands of a node of kind k
 unfoldable pub binaryOf : ℕ → Binary
-binaryOf k =
-    pick (eqb k 13) (λ _. Or) (λ _.
-    pick (eqb k 14) (λ _. And) (λ _.
-    pick (eqb k 15) (λ _. Equal) (λ _.
-    pick (eqb k 16) (λ _. NotEqual) (λ _.
-    pick (eqb k 17) (λ _. Is) (λ _.
-    pick (eqb k 18) (λ _. Isnt) (λ _.
-    pick (eqb k 19) (λ _. Less) (λ _.
-    pick (eqb k 20) (λ _. LessOrEqual) (λ _.
-    pick (eqb k 21) (λ _. Greater) (λ _.
-    pick (eqb k 22) (λ _. GreaterOrEqual) (λ _.
-    pick (eqb k 23) (λ _. Add) (λ _.
-    pick (eqb k 24) (λ _. Subtract) (λ _.
-    pick (eqb k 25) (λ _. Multiply) (λ _.
-    pick (eqb k 26) (λ _. Divide) (λ _.
-    Remainder))))))))))))))
+binaryOf k = getD binaries (k - 13) Or
 
 -- whether a kind is that of a reference `name`: 'Reference: `name` or `other.name`'
 abbrev pub isOwn : ℕ → Bool

@@ -8,7 +8,7 @@ ghost use lib.ListN.{length, replicate};
 ghost use lib.Seq.{sets, slice};
 ghost use Rattle.text.specs.Strings.{sameName};
 ghost use Rattle.ad.specs.Layout.{node};
-ghost use Rattle.ad.specs.Stored.{kindAt, operandAt, offsetAt, lengthAt, rootAt, bytesAt, unaryOf, binaryOf, definedIn};
+ghost use Rattle.ad.specs.Stored.{kindAt, operandAt, offsetAt, lengthAt, rootAt, bytesAt, arity, isReference, unaryOf, binaryOf, definedIn};
 
 // The room of an ad: 1,024 nodes of four words, behind them 256 definitions of three, and 16,384 bytes.
 pub const NODE_WORDS: usize = 4096;
@@ -37,7 +37,6 @@ pub fn binary_of(kind: u64) -> Binary
     ensures { λ r. ⌜ r ≡ binaryOf kind ⌝ }
 {
     match kind {
-        13 => Binary::Or,
         14 => Binary::And,
         15 => Binary::Equal,
         16 => Binary::NotEqual,
@@ -51,7 +50,8 @@ pub fn binary_of(kind: u64) -> Binary
         24 => Binary::Subtract,
         25 => Binary::Multiply,
         26 => Binary::Divide,
-        _ => Binary::Remainder,
+        27 => Binary::Remainder,
+        _ => Binary::Or,
     }
 }
 
@@ -64,6 +64,35 @@ pub fn unary_of(kind: u64) -> Unary
         10 => Unary::Plus,
         _ => Unary::Minus,
     }
+}
+
+// How many operands a node of this kind has.
+pub fn arity(kind: u64) -> usize
+    ensures { λ r. ⌜ r ≡ arity kind ⌝ }
+{
+    if kind < 9 {
+        return 0;
+    }
+    if kind < 12 {
+        return 1;
+    }
+    if kind == 12 {
+        return 3;
+    }
+    if kind < 28 {
+        return 2;
+    }
+    0
+}
+
+// Whether a node of this kind is a reference.
+pub fn is_reference(kind: u64) -> bool
+    ensures { λ r. ⌜ r ≡ isReference kind ⌝ }
+{
+    if kind == 7 {
+        return true;
+    }
+    kind == 8
 }
 
 // Node i's operand or datum j.

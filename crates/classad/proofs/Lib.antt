@@ -1,3 +1,4 @@
 pub mod Three
 pub mod Checking
 pub mod Inspected
+pub mod Naming

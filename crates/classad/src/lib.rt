@@ -8,7 +8,7 @@ ghost use Rattle.values.specs.declared.Value.the-variants.{Real};
 ghost use Rattle.reals.specs.Reals.{storedReal};
 ghost use Rattle.slots.specs.declared.Slot.the-variants.{Held};
 ghost use Rattle.slots.specs.Packed.{slotAt, Stored};
-ghost use Rattle.classad.specs.Operators.{binaryOf, unaryOf, binarySlot, unarySlot, conditionalSlot};
+ghost use Rattle.classad.specs.Operators.{binaryNamed, unaryNamed, binarySlot, unarySlot, conditionalSlot};
 ghost use Rattle.classad.specs.Reading.{numbersOf, Reported};
 ghost use Rattle.classad.specs.Matching.{checkNumbers, CheckReported, outcomeNumbers, MatchReported, orderNumbers, OrderReported};
 ghost use Rattle.classad.specs.Printing.{printNumbers, PrintReported};
@@ -54,38 +54,22 @@ pub enum One {
     Operator(Unary),
 }
 
-fn binary_of(kind: u64) -> Two
-    ensures { λ r. ⌜ r ≡ binaryOf kind ⌝ }
+fn binary_named(kind: u64) -> Two
+    ensures { λ r. ⌜ r ≡ binaryNamed kind ⌝ }
 {
-    match kind {
-        13 => Two::Operator(Binary::Or),
-        14 => Two::Operator(Binary::And),
-        15 => Two::Operator(Binary::Equal),
-        16 => Two::Operator(Binary::NotEqual),
-        17 => Two::Operator(Binary::Is),
-        18 => Two::Operator(Binary::Isnt),
-        19 => Two::Operator(Binary::Less),
-        20 => Two::Operator(Binary::LessOrEqual),
-        21 => Two::Operator(Binary::Greater),
-        22 => Two::Operator(Binary::GreaterOrEqual),
-        23 => Two::Operator(Binary::Add),
-        24 => Two::Operator(Binary::Subtract),
-        25 => Two::Operator(Binary::Multiply),
-        26 => Two::Operator(Binary::Divide),
-        27 => Two::Operator(Binary::Remainder),
-        _ => Two::Nothing,
+    if ad::arity(kind) == 2 {
+        return Two::Operator(ad::binary_of(kind));
     }
+    Two::Nothing
 }
 
-fn unary_of(kind: u64) -> One
-    ensures { λ r. ⌜ r ≡ unaryOf kind ⌝ }
+fn unary_named(kind: u64) -> One
+    ensures { λ r. ⌜ r ≡ unaryNamed kind ⌝ }
 {
-    match kind {
-        9 => One::Operator(Unary::Not),
-        10 => One::Operator(Unary::Plus),
-        11 => One::Operator(Unary::Minus),
-        _ => One::Nothing,
+    if ad::arity(kind) == 1 {
+        return One::Operator(ad::unary_of(kind));
     }
+    One::Nothing
 }
 
 fn binary_slot(first: &[u8], second: &[u8], op: Two, a: Slot, b: Slot) -> Slot
@@ -139,22 +123,26 @@ pub extern "C" fn classad_binary(
     operands: &[u64],
     result: &mut [u64],
 )
-    ensures { λ _. ⌜ Stored (now (result .entry)) (now (result .exit)) 0 (binarySlot (now (first .entry)) (now (second .entry)) (binaryOf kind) (slotAt (now (operands .entry)) 0) (slotAt (now (operands .entry)) 1)) ⌝ }
+    ensures { λ _. ⌜ Stored (now (result .entry)) (now (result .exit)) 0 (binarySlot (now (first .entry)) (now (second .entry)) (binaryNamed kind) (slotAt (now (operands .entry)) 0) (slotAt (now (operands .entry)) 1)) ⌝ }
 {
     let a = slots::load(operands, 0);
     let b = slots::load(operands, 1);
-    slots::store(result, 0, binary_slot(first, second, binary_of(kind), a, b));
+    slots::store(
+        result,
+        0,
+        binary_slot(first, second, binary_named(kind), a, b),
+    );
 }
 
 // An operator of one operand, which is slot 0 of `operands`.
 #[no_mangle]
 pub extern "C" fn classad_unary(kind: u64, operands: &[u64], result: &mut [u64])
-    ensures { λ _. ⌜ Stored (now (result .entry)) (now (result .exit)) 0 (unarySlot (unaryOf kind) (slotAt (now (operands .entry)) 0)) ⌝ }
+    ensures { λ _. ⌜ Stored (now (result .entry)) (now (result .exit)) 0 (unarySlot (unaryNamed kind) (slotAt (now (operands .entry)) 0)) ⌝ }
 {
     slots::store(
         result,
         0,
-        unary_slot(unary_of(kind), slots::load(operands, 0)),
+        unary_slot(unary_named(kind), slots::load(operands, 0)),
     );
 }
 

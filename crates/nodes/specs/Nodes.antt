@@ -5,8 +5,7 @@ use mathlib.Core.List.{List, [], _∷_}
 use lib.ListN.{length}
 use lib.Dec.{eqb}
 use Rattle.syntax.specs.Tree as tree
-use Rattle.syntax.specs.declared.Binary.the-variants.{Or, And, Equal, NotEqual, Is, Isnt, Less, LessOrEqual, Greater, GreaterOrEqual, Add, Subtract, Multiply, Divide, Remainder}
-use Rattle.syntax.specs.declared.Unary.the-variants.{Not, Plus, Minus}
+use Rattle.ad.specs.Stored.{arity, unaryOf, binaryOf, isReference}
 use Rattle.integers.specs.Integers.{width}
 use Rattle.reals.specs.Reals.{literalReal, storedReal}
 use Rattle.values.specs.declared.Value.{Value}
@@ -40,28 +39,11 @@ constantOf second k a b =
 -- 'A node is a literal, a reference or an operator': by its numbers (docs/LAYOUT.md), whatever they are
 abbrev pub nodeOf : Bool → ℕ → ℕ → ℕ → Node
 nodeOf second k a b =
-    cond (eqb k 7) Reference
-    (cond (eqb k 8) Reference
-    (cond (eqb k 9) (OfOne Not)
-    (cond (eqb k 10) (OfOne Plus)
-    (cond (eqb k 11) (OfOne Minus)
-    (cond (eqb k 12) Conditional
-    (cond (eqb k 13) (OfTwo Or)
-    (cond (eqb k 14) (OfTwo And)
-    (cond (eqb k 15) (OfTwo Equal)
-    (cond (eqb k 16) (OfTwo NotEqual)
-    (cond (eqb k 17) (OfTwo Is)
-    (cond (eqb k 18) (OfTwo Isnt)
-    (cond (eqb k 19) (OfTwo Less)
-    (cond (eqb k 20) (OfTwo LessOrEqual)
-    (cond (eqb k 21) (OfTwo Greater)
-    (cond (eqb k 22) (OfTwo GreaterOrEqual)
-    (cond (eqb k 23) (OfTwo Add)
-    (cond (eqb k 24) (OfTwo Subtract)
-    (cond (eqb k 25) (OfTwo Multiply)
-    (cond (eqb k 26) (OfTwo Divide)
-    (cond (eqb k 27) (OfTwo Remainder)
-    (Constant (constantOf second k a b))))))))))))))))))))))
+    cond (isReference k) Reference
+    (cond (eqb (arity k) 1) (OfOne (unaryOf k))
+    (cond (eqb (arity k) 2) (OfTwo (binaryOf k))
+    (cond (eqb (arity k) 3) Conditional
+    (Constant (constantOf second k a b)))))
 
 -- THE RULE OF A NODE, of the values a, b and c of its needs: 'what the rules make of the values of its needs'. A reference has the
 -- value of its definition.

@@ -31,28 +31,13 @@ fn constant_of(second: bool, kind: u64, a: u64, b: u64) -> Value
 pub fn node_of(second: bool, kind: u64, a: u64, b: u64) -> Node
     ensures { λ r. ⌜ r ≡ nodeOf second kind a b ⌝ }
 {
-    match kind {
-        7 => Node::Reference,
-        8 => Node::Reference,
-        9 => Node::OfOne(Unary::Not),
-        10 => Node::OfOne(Unary::Plus),
-        11 => Node::OfOne(Unary::Minus),
-        12 => Node::Conditional,
-        13 => Node::OfTwo(Binary::Or),
-        14 => Node::OfTwo(Binary::And),
-        15 => Node::OfTwo(Binary::Equal),
-        16 => Node::OfTwo(Binary::NotEqual),
-        17 => Node::OfTwo(Binary::Is),
-        18 => Node::OfTwo(Binary::Isnt),
-        19 => Node::OfTwo(Binary::Less),
-        20 => Node::OfTwo(Binary::LessOrEqual),
-        21 => Node::OfTwo(Binary::Greater),
-        22 => Node::OfTwo(Binary::GreaterOrEqual),
-        23 => Node::OfTwo(Binary::Add),
-        24 => Node::OfTwo(Binary::Subtract),
-        25 => Node::OfTwo(Binary::Multiply),
-        26 => Node::OfTwo(Binary::Divide),
-        27 => Node::OfTwo(Binary::Remainder),
+    if ad::is_reference(kind) {
+        return Node::Reference;
+    }
+    match ad::arity(kind) {
+        1 => Node::OfOne(ad::unary_of(kind)),
+        2 => Node::OfTwo(ad::binary_of(kind)),
+        3 => Node::Conditional,
         _ => Node::Constant(constant_of(second, kind, a, b)),
     }
 }

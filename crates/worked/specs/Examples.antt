@@ -14,7 +14,7 @@ use Rattle.syntax.specs.Reader.{read, parse, accepted, adAt, definitionsAt, con
 use Rattle.syntax.specs.declared.Binary.the-variants.{Or, And, Equal, Is, Greater, Add, Divide, Remainder}
 use Rattle.syntax.specs.declared.Unary.the-variants.{Not, Minus}
 use Rattle.ad.specs.Layout.{Named, literalNode, literalBytes, scopeKind, exprNodes, exprBytes, adNodes, adBytes, storedWords, storedBytes}
-use Rattle.ad.specs.Stored.{arity, operands}
+use Rattle.ad.specs.Stored.{arity, unaryOf, binaryOf, operands}
 use Rattle.links.specs.Pair.{both, definitionAt, requirements, rank, StoredAd}
 use Rattle.values.specs.declared.Value.{Value}
 use Rattle.values.specs.declared.Value.the-variants.{Undefined, Error, Boolean}
@@ -95,7 +95,7 @@ unfolding w1-tree defined-as read parse adAt definitionsAt conditionalAt count s
 w1-read = refl
 
 w1 : Holds (alone (bytes "[x = undefined || true]") (Boolean true) (0 ∷ 1 ∷ 2 ∷ 1024 ∷ []) 0)
-unfolding w1-tree asks defined-as attempt tryWith enters enterWith behind among treeLinks treeFrom treeNodes treeRoots upTo definitionAt both storedWords storedBytes adNodes adBytes exprNodes exprBytes literalNode literalBytes scopeKind size nodes operands arity ruleAt valueIn bytes sameName sameBytes lowerCase stringOrder bytesOrder Tries wrap signed reached within closedIn treeRefers allTried Lists
+unfolding w1-tree asks defined-as attempt tryWith enters enterWith behind among treeLinks treeFrom treeNodes treeRoots upTo definitionAt both storedWords storedBytes adNodes adBytes exprNodes exprBytes literalNode literalBytes scopeKind size nodes operands arity unaryOf binaryOf ruleAt valueIn bytes sameName sameBytes lowerCase stringOrder bytesOrder Tries wrap signed reached within closedIn treeRefers allTried Lists
 w1 = holds w1-stored asks-stored (alone (bytes "[x = undefined || true]") (Boolean true) (0 ∷ 1 ∷ 2 ∷ 1024 ∷ []) 0) [] [] [] (Boolean true ∷ []) w1-read asks-read refl refl (refl, tt) ((2, refl, refl), tt) refl refl refl refl refl refl refl
 
 w2-tree : Ad
@@ -110,7 +110,7 @@ unfolding w2-tree defined-as read parse adAt definitionsAt conditionalAt count s
 w2-read = refl
 
 w2 : Holds (alone (bytes "[x = \"x\" || true]") Error (0 ∷ 1 ∷ 2 ∷ 1024 ∷ []) 0)
-unfolding w2-tree asks defined-as attempt tryWith enters enterWith behind among treeLinks treeFrom treeNodes treeRoots upTo definitionAt both storedWords storedBytes adNodes adBytes exprNodes exprBytes literalNode literalBytes scopeKind size nodes operands arity ruleAt valueIn bytes sameName sameBytes lowerCase stringOrder bytesOrder Tries wrap signed reached within closedIn treeRefers allTried Lists
+unfolding w2-tree asks defined-as attempt tryWith enters enterWith behind among treeLinks treeFrom treeNodes treeRoots upTo definitionAt both storedWords storedBytes adNodes adBytes exprNodes exprBytes literalNode literalBytes scopeKind size nodes operands arity unaryOf binaryOf ruleAt valueIn bytes sameName sameBytes lowerCase stringOrder bytesOrder Tries wrap signed reached within closedIn treeRefers allTried Lists
 w2 = holds w2-stored asks-stored (alone (bytes "[x = \"x\" || true]") Error (0 ∷ 1 ∷ 2 ∷ 1024 ∷ []) 0) [] [] [] (Error ∷ []) w2-read asks-read refl refl (refl, tt) ((2, refl, refl), tt) refl refl refl refl refl refl refl
 
 w3-tree : Ad
@@ -125,7 +125,7 @@ unfolding w3-tree defined-as read parse adAt definitionsAt conditionalAt count s
 w3-read = refl
 
 w3 : Holds (alone (bytes "[x = undefined && \"x\"]") Error (0 ∷ 1 ∷ 2 ∷ 1024 ∷ []) 0)
-unfolding w3-tree asks defined-as attempt tryWith enters enterWith behind among treeLinks treeFrom treeNodes treeRoots upTo definitionAt both storedWords storedBytes adNodes adBytes exprNodes exprBytes literalNode literalBytes scopeKind size nodes operands arity ruleAt valueIn bytes sameName sameBytes lowerCase stringOrder bytesOrder Tries wrap signed reached within closedIn treeRefers allTried Lists
+unfolding w3-tree asks defined-as attempt tryWith enters enterWith behind among treeLinks treeFrom treeNodes treeRoots upTo definitionAt both storedWords storedBytes adNodes adBytes exprNodes exprBytes literalNode literalBytes scopeKind size nodes operands arity unaryOf binaryOf ruleAt valueIn bytes sameName sameBytes lowerCase stringOrder bytesOrder Tries wrap signed reached within closedIn treeRefers allTried Lists
 w3 = holds w3-stored asks-stored (alone (bytes "[x = undefined && \"x\"]") Error (0 ∷ 1 ∷ 2 ∷ 1024 ∷ []) 0) [] [] [] (Error ∷ []) w3-read asks-read refl refl (refl, tt) ((2, refl, refl), tt) refl refl refl refl refl refl refl
 
 w4-tree : Ad
@@ -140,7 +140,7 @@ unfolding w4-tree defined-as read parse adAt definitionsAt conditionalAt count s
 w4-read = refl
 
 w4 : Holds (alone (bytes "[x = undefined + \"x\"]") Error (0 ∷ 1 ∷ 2 ∷ 1024 ∷ []) 0)
-unfolding w4-tree asks defined-as attempt tryWith enters enterWith behind among treeLinks treeFrom treeNodes treeRoots upTo definitionAt both storedWords storedBytes adNodes adBytes exprNodes exprBytes literalNode literalBytes scopeKind size nodes operands arity ruleAt valueIn bytes sameName sameBytes lowerCase stringOrder bytesOrder Tries wrap signed reached within closedIn treeRefers allTried Lists
+unfolding w4-tree asks defined-as attempt tryWith enters enterWith behind among treeLinks treeFrom treeNodes treeRoots upTo definitionAt both storedWords storedBytes adNodes adBytes exprNodes exprBytes literalNode literalBytes scopeKind size nodes operands arity unaryOf binaryOf ruleAt valueIn bytes sameName sameBytes lowerCase stringOrder bytesOrder Tries wrap signed reached within closedIn treeRefers allTried Lists
 w4 = holds w4-stored asks-stored (alone (bytes "[x = undefined + \"x\"]") Error (0 ∷ 1 ∷ 2 ∷ 1024 ∷ []) 0) [] [] [] (Error ∷ []) w4-read asks-read refl refl (refl, tt) ((2, refl, refl), tt) refl refl refl refl refl refl refl
 
 w5-tree : Ad
@@ -155,7 +155,7 @@ unfolding w5-tree defined-as read parse adAt definitionsAt conditionalAt count s
 w5-read = refl
 
 w5 : Holds (alone (bytes "[x = undefined + 1]") Undefined (0 ∷ 1 ∷ 2 ∷ 1024 ∷ []) 0)
-unfolding w5-tree asks defined-as attempt tryWith enters enterWith behind among treeLinks treeFrom treeNodes treeRoots upTo definitionAt both storedWords storedBytes adNodes adBytes exprNodes exprBytes literalNode literalBytes scopeKind size nodes operands arity ruleAt valueIn bytes sameName sameBytes lowerCase stringOrder bytesOrder Tries wrap signed reached within closedIn treeRefers allTried Lists
+unfolding w5-tree asks defined-as attempt tryWith enters enterWith behind among treeLinks treeFrom treeNodes treeRoots upTo definitionAt both storedWords storedBytes adNodes adBytes exprNodes exprBytes literalNode literalBytes scopeKind size nodes operands arity unaryOf binaryOf ruleAt valueIn bytes sameName sameBytes lowerCase stringOrder bytesOrder Tries wrap signed reached within closedIn treeRefers allTried Lists
 w5 = holds w5-stored asks-stored (alone (bytes "[x = undefined + 1]") Undefined (0 ∷ 1 ∷ 2 ∷ 1024 ∷ []) 0) [] [] [] (Undefined ∷ []) w5-read asks-read refl refl (refl, tt) ((2, refl, refl), tt) refl refl refl refl refl refl refl
 
 w6-tree : Ad
@@ -170,7 +170,7 @@ unfolding w6-tree defined-as read parse adAt definitionsAt conditionalAt count s
 w6-read = refl
 
 w6 : Holds (alone (bytes "[x = 2147483647 + 1]") (table.integer (negsuc 2147483647)) (0 ∷ 1 ∷ 2 ∷ 1024 ∷ []) 0)
-unfolding w6-tree asks defined-as attempt tryWith enters enterWith behind among treeLinks treeFrom treeNodes treeRoots upTo definitionAt both storedWords storedBytes adNodes adBytes exprNodes exprBytes literalNode literalBytes scopeKind size nodes operands arity ruleAt valueIn bytes sameName sameBytes lowerCase stringOrder bytesOrder Tries wrap signed reached within closedIn treeRefers allTried Lists
+unfolding w6-tree asks defined-as attempt tryWith enters enterWith behind among treeLinks treeFrom treeNodes treeRoots upTo definitionAt both storedWords storedBytes adNodes adBytes exprNodes exprBytes literalNode literalBytes scopeKind size nodes operands arity unaryOf binaryOf ruleAt valueIn bytes sameName sameBytes lowerCase stringOrder bytesOrder Tries wrap signed reached within closedIn treeRefers allTried Lists
 w6 = holds w6-stored asks-stored (alone (bytes "[x = 2147483647 + 1]") (table.integer (negsuc 2147483647)) (0 ∷ 1 ∷ 2 ∷ 1024 ∷ []) 0) [] [] [] (table.integer (negsuc 2147483647) ∷ []) w6-read asks-read refl refl (refl, tt) ((2, refl, refl), tt) refl refl refl refl refl refl refl
 
 w7-tree : Ad
@@ -185,7 +185,7 @@ unfolding w7-tree defined-as read parse adAt definitionsAt conditionalAt count s
 w7-read = refl
 
 w7 : Holds (alone (bytes "[x = -7 % 3]") (table.integer (negsuc 0)) (0 ∷ 1 ∷ 2 ∷ 3 ∷ 1024 ∷ []) 0)
-unfolding w7-tree asks defined-as attempt tryWith enters enterWith behind among treeLinks treeFrom treeNodes treeRoots upTo definitionAt both storedWords storedBytes adNodes adBytes exprNodes exprBytes literalNode literalBytes scopeKind size nodes operands arity ruleAt valueIn bytes sameName sameBytes lowerCase stringOrder bytesOrder Tries wrap signed reached within closedIn treeRefers allTried Lists
+unfolding w7-tree asks defined-as attempt tryWith enters enterWith behind among treeLinks treeFrom treeNodes treeRoots upTo definitionAt both storedWords storedBytes adNodes adBytes exprNodes exprBytes literalNode literalBytes scopeKind size nodes operands arity unaryOf binaryOf ruleAt valueIn bytes sameName sameBytes lowerCase stringOrder bytesOrder Tries wrap signed reached within closedIn treeRefers allTried Lists
 w7 = holds w7-stored asks-stored (alone (bytes "[x = -7 % 3]") (table.integer (negsuc 0)) (0 ∷ 1 ∷ 2 ∷ 3 ∷ 1024 ∷ []) 0) [] [] [] (table.integer (negsuc 0) ∷ []) w7-read asks-read refl refl (refl, tt) ((3, refl, refl), tt) refl refl refl refl refl refl refl
 
 w8-tree : Ad
@@ -200,7 +200,7 @@ unfolding w8-tree defined-as read parse adAt definitionsAt conditionalAt count s
 w8-read = refl
 
 w8 : Holds (alone (bytes "[x = 1 / 0]") Error (0 ∷ 1 ∷ 2 ∷ 1024 ∷ []) 0)
-unfolding w8-tree asks defined-as attempt tryWith enters enterWith behind among treeLinks treeFrom treeNodes treeRoots upTo definitionAt both storedWords storedBytes adNodes adBytes exprNodes exprBytes literalNode literalBytes scopeKind size nodes operands arity ruleAt valueIn bytes sameName sameBytes lowerCase stringOrder bytesOrder Tries wrap signed reached within closedIn treeRefers allTried Lists
+unfolding w8-tree asks defined-as attempt tryWith enters enterWith behind among treeLinks treeFrom treeNodes treeRoots upTo definitionAt both storedWords storedBytes adNodes adBytes exprNodes exprBytes literalNode literalBytes scopeKind size nodes operands arity unaryOf binaryOf ruleAt valueIn bytes sameName sameBytes lowerCase stringOrder bytesOrder Tries wrap signed reached within closedIn treeRefers allTried Lists
 w8 = holds w8-stored asks-stored (alone (bytes "[x = 1 / 0]") Error (0 ∷ 1 ∷ 2 ∷ 1024 ∷ []) 0) [] [] [] (Error ∷ []) w8-read asks-read refl refl (refl, tt) ((2, refl, refl), tt) refl refl refl refl refl refl refl
 
 w9-tree : Ad
@@ -215,7 +215,7 @@ unfolding w9-tree defined-as read parse adAt definitionsAt conditionalAt count s
 w9-read = refl
 
 w9 : Holds (alone (bytes "[x = 3 is 3.0]") (Boolean false) (0 ∷ 1 ∷ 2 ∷ 1024 ∷ []) 0)
-unfolding w9-tree asks defined-as attempt tryWith enters enterWith behind among treeLinks treeFrom treeNodes treeRoots upTo definitionAt both storedWords storedBytes adNodes adBytes exprNodes exprBytes literalNode literalBytes scopeKind size nodes operands arity ruleAt valueIn bytes sameName sameBytes lowerCase stringOrder bytesOrder Tries wrap signed reached within closedIn treeRefers allTried Lists
+unfolding w9-tree asks defined-as attempt tryWith enters enterWith behind among treeLinks treeFrom treeNodes treeRoots upTo definitionAt both storedWords storedBytes adNodes adBytes exprNodes exprBytes literalNode literalBytes scopeKind size nodes operands arity unaryOf binaryOf ruleAt valueIn bytes sameName sameBytes lowerCase stringOrder bytesOrder Tries wrap signed reached within closedIn treeRefers allTried Lists
 w9 = holds w9-stored asks-stored (alone (bytes "[x = 3 is 3.0]") (Boolean false) (0 ∷ 1 ∷ 2 ∷ 1024 ∷ []) 0) [] [] [] (Boolean false ∷ []) w9-read asks-read refl refl (refl, tt) ((2, refl, refl), tt) refl refl refl refl refl refl refl
 
 w10-tree : Ad
@@ -230,7 +230,7 @@ unfolding w10-tree defined-as read parse adAt definitionsAt conditionalAt count 
 w10-read = refl
 
 w10 : Holds (alone (bytes "[x = \"One\" == \"one\"]") (Boolean true) (0 ∷ 1 ∷ 2 ∷ 1024 ∷ []) 0)
-unfolding w10-tree asks defined-as attempt tryWith enters enterWith behind among treeLinks treeFrom treeNodes treeRoots upTo definitionAt both storedWords storedBytes adNodes adBytes exprNodes exprBytes literalNode literalBytes scopeKind size nodes operands arity ruleAt valueIn bytes sameName sameBytes lowerCase stringOrder bytesOrder Tries wrap signed reached within closedIn treeRefers allTried Lists
+unfolding w10-tree asks defined-as attempt tryWith enters enterWith behind among treeLinks treeFrom treeNodes treeRoots upTo definitionAt both storedWords storedBytes adNodes adBytes exprNodes exprBytes literalNode literalBytes scopeKind size nodes operands arity unaryOf binaryOf ruleAt valueIn bytes sameName sameBytes lowerCase stringOrder bytesOrder Tries wrap signed reached within closedIn treeRefers allTried Lists
 w10 = holds w10-stored asks-stored (alone (bytes "[x = \"One\" == \"one\"]") (Boolean true) (0 ∷ 1 ∷ 2 ∷ 1024 ∷ []) 0) [] [] [] (Boolean true ∷ []) w10-read asks-read refl refl (refl, tt) ((2, refl, refl), tt) refl refl refl refl refl refl refl
 
 -- ---- W11: a and b are circular, d is not
@@ -261,7 +261,7 @@ w11-row : Row
 w11-row = record { first = bytes "[a = b; b = a is undefined; d = b]"; second = bytes "[Requirements = other.a; Rank = other.d]"; gives = record { name = bytes "a"; value = Undefined } ∷ record { name = bytes "b"; value = Boolean true } ∷ record { name = bytes "d"; value = Boolean true } ∷ []; order = 0 ∷ 1024 ∷ 1 ∷ 2 ∷ 3 ∷ 4 ∷ 1025 ∷ []; matched = false; first-rank = 0; second-rank = 0 }
 
 w11 : Holds w11-row
-unfolding w11-row w11-first w11-second defined-as attempt tryWith enters enterWith behind among treeLinks treeFrom treeNodes treeRoots upTo definitionAt both storedWords storedBytes adNodes adBytes exprNodes exprBytes literalNode literalBytes scopeKind size nodes operands arity ruleAt valueIn bytes sameName sameBytes lowerCase stringOrder bytesOrder Tries wrap signed reached within closedIn treeRefers allTried Lists
+unfolding w11-row w11-first w11-second defined-as attempt tryWith enters enterWith behind among treeLinks treeFrom treeNodes treeRoots upTo definitionAt both storedWords storedBytes adNodes adBytes exprNodes exprBytes literalNode literalBytes scopeKind size nodes operands arity unaryOf binaryOf ruleAt valueIn bytes sameName sameBytes lowerCase stringOrder bytesOrder Tries wrap signed reached within closedIn treeRefers allTried Lists
 w11 = holds w11-first-stored w11-second-stored w11-row [] (Undefined ∷ []) [] (Boolean true ∷ []) w11-first-read w11-second-read refl refl (refl, (refl, (refl, tt))) ((0, refl, refl), ((3, refl, refl), ((4, refl, refl), tt))) refl refl refl refl refl refl refl
 
 -- ---- W12
@@ -292,7 +292,7 @@ w12-row : Row
 w12-row = record { first = bytes "[Requirements = other.w > 50]"; second = bytes "[w = 60; Requirements = true]"; gives = record { name = bytes "Requirements"; value = Boolean true } ∷ []; order = 1024 ∷ 0 ∷ 1 ∷ 2 ∷ 1025 ∷ []; matched = true; first-rank = 0; second-rank = 0 }
 
 w12 : Holds w12-row
-unfolding w12-row w12-first w12-second defined-as attempt tryWith enters enterWith behind among treeLinks treeFrom treeNodes treeRoots upTo definitionAt both storedWords storedBytes adNodes adBytes exprNodes exprBytes literalNode literalBytes scopeKind size nodes operands arity ruleAt valueIn bytes sameName sameBytes lowerCase stringOrder bytesOrder Tries wrap signed reached within closedIn treeRefers allTried Lists
+unfolding w12-row w12-first w12-second defined-as attempt tryWith enters enterWith behind among treeLinks treeFrom treeNodes treeRoots upTo definitionAt both storedWords storedBytes adNodes adBytes exprNodes exprBytes literalNode literalBytes scopeKind size nodes operands arity unaryOf binaryOf ruleAt valueIn bytes sameName sameBytes lowerCase stringOrder bytesOrder Tries wrap signed reached within closedIn treeRefers allTried Lists
 w12 = holds w12-first-stored w12-second-stored w12-row (Boolean true ∷ []) (Boolean true ∷ []) [] [] w12-first-read w12-second-read refl refl (refl, tt) ((2, refl, refl), tt) refl refl refl refl refl refl refl
 
 -- ---- the table
@@ -328,5 +328,5 @@ fault-second-read = refl
 
 -- A MISSING ATTRIBUTE NEGATED IS NO MATCH: 'Matched: both Requirements are true, nothing else.'
 pub fault-unmatched : Holds fault
-unfolding fault fault-first fault-second defined-as attempt tryWith enters enterWith behind among treeLinks treeFrom treeNodes treeRoots upTo definitionAt both storedWords storedBytes adNodes adBytes exprNodes exprBytes literalNode literalBytes scopeKind size nodes operands arity ruleAt valueIn bytes sameName sameBytes lowerCase stringOrder bytesOrder Tries wrap signed reached within closedIn treeRefers allTried Lists
+unfolding fault fault-first fault-second defined-as attempt tryWith enters enterWith behind among treeLinks treeFrom treeNodes treeRoots upTo definitionAt both storedWords storedBytes adNodes adBytes exprNodes exprBytes literalNode literalBytes scopeKind size nodes operands arity unaryOf binaryOf ruleAt valueIn bytes sameName sameBytes lowerCase stringOrder bytesOrder Tries wrap signed reached within closedIn treeRefers allTried Lists
 fault-unmatched = holds fault-first-stored fault-second-stored fault (Undefined ∷ []) (Boolean true ∷ []) [] [] fault-first-read fault-second-read refl refl (refl, tt) ((3, refl, refl), tt) refl refl refl refl refl refl refl

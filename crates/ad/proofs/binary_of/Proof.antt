@@ -1,5 +1,5 @@
-use borrow.Author.Tests.{ne-eqb}
 use Rattle.ad.specs.Stored.{binaryOf}
+use Rattle.ad.proofs.Shapes.{no-binary}
 use borrow.Author.Needs.{needs}
 use native.Mathlib.Omega.{arith}
 use Rattle.ad.proofs.binary_of.Statement.{statement}
@@ -64,26 +64,7 @@ unfolding binaryOf
 returns-14 c = rw (c .match .keys14)
 
 returns-15 : tie.Need-returns-15
-unfolding binaryOf
-returns-15 c =
-    let n = c .match .rest in
-    let k = c .before .args .kind in
-    rw (
-      ne-eqb k 13 (n .0 .0 .0 .0 .0 .0 .0 .0 .0 .0 .0 .0 .0 .1),
-      ne-eqb k 14 (n .0 .0 .0 .0 .0 .0 .0 .0 .0 .0 .0 .0 .1),
-      ne-eqb k 15 (n .0 .0 .0 .0 .0 .0 .0 .0 .0 .0 .0 .1),
-      ne-eqb k 16 (n .0 .0 .0 .0 .0 .0 .0 .0 .0 .0 .1),
-      ne-eqb k 17 (n .0 .0 .0 .0 .0 .0 .0 .0 .0 .1),
-      ne-eqb k 18 (n .0 .0 .0 .0 .0 .0 .0 .0 .1),
-      ne-eqb k 19 (n .0 .0 .0 .0 .0 .0 .0 .1),
-      ne-eqb k 20 (n .0 .0 .0 .0 .0 .0 .1),
-      ne-eqb k 21 (n .0 .0 .0 .0 .0 .1),
-      ne-eqb k 22 (n .0 .0 .0 .0 .1),
-      ne-eqb k 23 (n .0 .0 .0 .1),
-      ne-eqb k 24 (n .0 .0 .1),
-      ne-eqb k 25 (n .0 .1),
-      ne-eqb k 26 (n .1),
-    )
+returns-15 c = no-binary (c .before .args .kind) (c .match .rest)
 
 pub binary-of-spec : {M : Type 1} → statement M
 binary-of-spec =

@@ -15,7 +15,7 @@ returns c =
     let found = made .before in
     let loaded = found .before .before in
     let a = loaded .before .before .before .before .before .before .args in
-    let same = ap₃ (binarySlot (now (a .first)) (now (a .second))) (found .binary-of .ensures)
+    let same = ap₃ (binarySlot (now (a .first)) (now (a .second))) (found .binary-named .ensures)
     (loaded .before .load .ensures) (loaded .load2 .ensures) in
     subst (Stored _ _ 0) (made .binary-slot .ensures ∙ same) (stored .store .ensures)
 

@@ -11,7 +11,7 @@ returns c =
     let stored = c .before .before in
     let made = stored .before in
     let loaded = made .before in
-    let same = ap₂ unarySlot (loaded .before .unary-of .ensures) (loaded .load .ensures) in
+    let same = ap₂ unarySlot (loaded .before .unary-named .ensures) (loaded .load .ensures) in
     subst (Stored _ _ 0) (made .unary-slot .ensures ∙ same) (stored .store .ensures)
 
 pub classad-unary-spec : {M : Type 1} → statement M

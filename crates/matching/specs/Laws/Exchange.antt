@@ -8,7 +8,7 @@ use mathlib.Core.List.{List, [], _∷_, map}
 use lib.ListN.{length}
 use lib.Dec.{eqb, ltb}
 use Rattle.syntax.specs.Bounds.{maxNodes}
-use Rattle.ad.specs.Stored.{kindAt, operandAt, operands, nameAt, find}
+use Rattle.ad.specs.Stored.{kindAt, operandAt, arity, unaryOf, binaryOf, isReference, operands, nameAt, find}
 use Rattle.graph.specs.Members.{_∈_, here, there, Each}
 use Rattle.graph.specs.Laws.Members.{ltb-yes, ltb-no}
 use Rattle.graph.specs.Graph.{Graph, Node, Flags, needs}
@@ -20,8 +20,6 @@ use Rattle.values.specs.declared.Value.the-variants.{Undefined, Error, Boolean,
 use Rattle.values.specs.Values.{turned}
 use Rattle.integers.specs.Integers.{width}
 use Rattle.reals.specs.Reals.{storedReal}
-use Rattle.syntax.specs.declared.Binary.the-variants.{Or, And, Equal, NotEqual, Is, Isnt, Less, LessOrEqual, Greater, GreaterOrEqual, Add, Subtract, Multiply, Divide, Remainder}
-use Rattle.syntax.specs.declared.Unary.the-variants.{Not, Plus, Minus}
 use Rattle.operators.specs.Laws.Exchange.{binary-exchange, unary-exchange, conditional-exchange}
 use Rattle.nodes.specs.declared.Node as kind
 use Rattle.nodes.specs.declared.Node.the-variants.{Constant, Reference, OfOne, OfTwo, Conditional}
@@ -140,34 +138,16 @@ constant-turned s k a b = go (eqb k 2) (eqb k 3) (eqb k 4) (eqb k 5) (eqb k 6)
 
 node-turned : (s : Bool) (k a b : ℕ) → turnedNode (nodeOf s k a b) ≡ nodeOf (not s) k a b
 unfolding turnedNode
-node-turned s k a b =
-    go (eqb k 7) (eqb k 8) (eqb k 9) (eqb k 10) (eqb k 11) (eqb k 12) (eqb k 13) (eqb k 14) (eqb k 15) (eqb k 16) (eqb k 17) (eqb k 18) (eqb k 19) (eqb k 20) (eqb k 21) (eqb k 22) (eqb k 23) (eqb k 24) (eqb k 25) (eqb k 26) (eqb k 27)
+node-turned s k a b = go (isReference k) (eqb (arity k) 1) (eqb (arity k) 2) (eqb (arity k) 3)
   where
-    go : (t7 t8 t9 t10 t11 t12 t13 t14 t15 t16 t17 t18 t19 t20 t21 t22 t23 t24 t25 t26 t27 : Bool) →
-        turnedNode (cond t7 Reference (cond t8 Reference (cond t9 (OfOne Not) (cond t10 (OfOne Plus) (cond t11 (OfOne Minus) (cond t12 Conditional (cond t13 (OfTwo Or) (cond t14 (OfTwo And) (cond t15 (OfTwo Equal) (cond t16 (OfTwo NotEqual) (cond t17 (OfTwo Is) (cond t18 (OfTwo Isnt) (cond t19 (OfTwo Less) (cond t20 (OfTwo LessOrEqual) (cond t21 (OfTwo Greater) (cond t22 (OfTwo GreaterOrEqual) (cond t23 (OfTwo Add) (cond t24 (OfTwo Subtract) (cond t25 (OfTwo Multiply) (cond t26 (OfTwo Divide) (cond t27 (OfTwo Remainder) (Constant (constantOf s k a b))))))))))))))))))))))) ≡
-        cond t7 Reference (cond t8 Reference (cond t9 (OfOne Not) (cond t10 (OfOne Plus) (cond t11 (OfOne Minus) (cond t12 Conditional (cond t13 (OfTwo Or) (cond t14 (OfTwo And) (cond t15 (OfTwo Equal) (cond t16 (OfTwo NotEqual) (cond t17 (OfTwo Is) (cond t18 (OfTwo Isnt) (cond t19 (OfTwo Less) (cond t20 (OfTwo LessOrEqual) (cond t21 (OfTwo Greater) (cond t22 (OfTwo GreaterOrEqual) (cond t23 (OfTwo Add) (cond t24 (OfTwo Subtract) (cond t25 (OfTwo Multiply) (cond t26 (OfTwo Divide) (cond t27 (OfTwo Remainder) (Constant (constantOf (not s) k a b))))))))))))))))))))))
-    go true t8 t9 t10 t11 t12 t13 t14 t15 t16 t17 t18 t19 t20 t21 t22 t23 t24 t25 t26 t27 = refl
-    go false true t9 t10 t11 t12 t13 t14 t15 t16 t17 t18 t19 t20 t21 t22 t23 t24 t25 t26 t27 = refl
-    go false false true t10 t11 t12 t13 t14 t15 t16 t17 t18 t19 t20 t21 t22 t23 t24 t25 t26 t27 = refl
-    go false false false true t11 t12 t13 t14 t15 t16 t17 t18 t19 t20 t21 t22 t23 t24 t25 t26 t27 = refl
-    go false false false false true t12 t13 t14 t15 t16 t17 t18 t19 t20 t21 t22 t23 t24 t25 t26 t27 = refl
-    go false false false false false true t13 t14 t15 t16 t17 t18 t19 t20 t21 t22 t23 t24 t25 t26 t27 = refl
-    go false false false false false false true t14 t15 t16 t17 t18 t19 t20 t21 t22 t23 t24 t25 t26 t27 = refl
-    go false false false false false false false true t15 t16 t17 t18 t19 t20 t21 t22 t23 t24 t25 t26 t27 = refl
-    go false false false false false false false false true t16 t17 t18 t19 t20 t21 t22 t23 t24 t25 t26 t27 = refl
-    go false false false false false false false false false true t17 t18 t19 t20 t21 t22 t23 t24 t25 t26 t27 = refl
-    go false false false false false false false false false false true t18 t19 t20 t21 t22 t23 t24 t25 t26 t27 = refl
-    go false false false false false false false false false false false true t19 t20 t21 t22 t23 t24 t25 t26 t27 = refl
-    go false false false false false false false false false false false false true t20 t21 t22 t23 t24 t25 t26 t27 = refl
-    go false false false false false false false false false false false false false true t21 t22 t23 t24 t25 t26 t27 = refl
-    go false false false false false false false false false false false false false false true t22 t23 t24 t25 t26 t27 = refl
-    go false false false false false false false false false false false false false false false true t23 t24 t25 t26 t27 = refl
-    go false false false false false false false false false false false false false false false false true t24 t25 t26 t27 = refl
-    go false false false false false false false false false false false false false false false false false true t25 t26 t27 = refl
-    go false false false false false false false false false false false false false false false false false false true t26 t27 = refl
-    go false false false false false false false false false false false false false false false false false false false true t27 = refl
-    go false false false false false false false false false false false false false false false false false false false false true = refl
-    go false false false false false false false false false false false false false false false false false false false false false = ap (λ (v : Value). Constant v) (constant-turned s k a b)
+    go : (r one two three : Bool) →
+        turnedNode (cond r Reference (cond one (OfOne (unaryOf k)) (cond two (OfTwo (binaryOf k)) (cond three Conditional (Constant (constantOf s k a b)))))) ≡
+        cond r Reference (cond one (OfOne (unaryOf k)) (cond two (OfTwo (binaryOf k)) (cond three Conditional (Constant (constantOf (not s) k a b)))))
+    go true one two three = refl
+    go false true two three = refl
+    go false false true three = refl
+    go false false false true = refl
+    go false false false false = ap (λ (v : Value). Constant v) (constant-turned s k a b)
 
 applied-turned : (first second : List ℕ) (n : kind.Node) (x y z : Value) → applied second first (turnedNode n) (turned x) (turned y) (turned z) ≡ turned (applied first second n x y z)
 unfolding turnedNode

@@ -1,104 +1,56 @@
-use mathlib.Core.Path.{ap}
-use borrow.Author.Tests.{ne-eqb}
-use Rattle.values.specs.declared.Value.{Value}
-use Rattle.nodes.specs.declared.Node.the-variants.{Constant}
 use borrow.Author.Needs.{needs}
+use Rattle.nodes.proofs.Ways.{refers, of-one, of-two, of-three, of-none}
 use Rattle.nodes.proofs.node_of.Statement.{statement}
 use Rattle.nodes.proofs.node_of.Tie as tie
 
 returns : tie.Need-returns
-returns c = rw (c .match .keys1)
+returns c =
+    let args = c .before .before .args in
+    refers (args .second) (args .kind) (args .a) (args .b) (c .before .is-reference .ensures) (c .if1 .taken)
 
 returns-2 : tie.Need-returns-2
-returns-2 c = rw (c .match .keys2)
+returns-2 c =
+    let m = c .before in
+    let if1 = m .before .before .if1 in
+    let test = m .before .before .before .is-reference in
+    let args = m .before .before .before .before .args in
+    of-one (args .second) (args .kind) (args .a) (args .b) (test .ensures) (if1 .left) (m .before .arity .ensures) (m .match .keys1) (c .unary-of .ensures)
 
 returns-3 : tie.Need-returns-3
-returns-3 c = rw (c .match .keys3)
+returns-3 c =
+    let m = c .before in
+    let if1 = m .before .before .if1 in
+    let test = m .before .before .before .is-reference in
+    let args = m .before .before .before .before .args in
+    of-two (args .second) (args .kind) (args .a) (args .b) (test .ensures) (if1 .left) (m .before .arity .ensures) (m .match .keys2) (c .binary-of .ensures)
 
 returns-4 : tie.Need-returns-4
-returns-4 c = rw (c .match .keys4)
+returns-4 c =
+    let m = c in
+    let if1 = m .before .before .if1 in
+    let test = m .before .before .before .is-reference in
+    let args = m .before .before .before .before .args in
+    of-three (args .second) (args .kind) (args .a) (args .b) (test .ensures) (if1 .left) (m .before .arity .ensures) (m .match .keys3)
 
 returns-5 : tie.Need-returns-5
-returns-5 c = rw (c .match .keys5)
-
-returns-6 : tie.Need-returns-6
-returns-6 c = rw (c .match .keys6)
-
-returns-7 : tie.Need-returns-7
-returns-7 c = rw (c .match .keys7)
-
-returns-8 : tie.Need-returns-8
-returns-8 c = rw (c .match .keys8)
-
-returns-9 : tie.Need-returns-9
-returns-9 c = rw (c .match .keys9)
-
-returns-10 : tie.Need-returns-10
-returns-10 c = rw (c .match .keys10)
-
-returns-11 : tie.Need-returns-11
-returns-11 c = rw (c .match .keys11)
-
-returns-12 : tie.Need-returns-12
-returns-12 c = rw (c .match .keys12)
-
-returns-13 : tie.Need-returns-13
-returns-13 c = rw (c .match .keys13)
-
-returns-14 : tie.Need-returns-14
-returns-14 c = rw (c .match .keys14)
-
-returns-15 : tie.Need-returns-15
-returns-15 c = rw (c .match .keys15)
-
-returns-16 : tie.Need-returns-16
-returns-16 c = rw (c .match .keys16)
-
-returns-17 : tie.Need-returns-17
-returns-17 c = rw (c .match .keys17)
-
-returns-18 : tie.Need-returns-18
-returns-18 c = rw (c .match .keys18)
-
-returns-19 : tie.Need-returns-19
-returns-19 c = rw (c .match .keys19)
-
-returns-20 : tie.Need-returns-20
-returns-20 c = rw (c .match .keys20)
-
-returns-21 : tie.Need-returns-21
-returns-21 c = rw (c .match .keys21)
-
-returns-22 : tie.Need-returns-22
-returns-22 c =
-    let n = c .before .match .rest in
-    let k = c .before .before .args .kind in
-    rw (
-      ne-eqb k 7 (n .0 .0 .0 .0 .0 .0 .0 .0 .0 .0 .0 .0 .0 .0 .0 .0 .0 .0 .0 .0 .1),
-      ne-eqb k 8 (n .0 .0 .0 .0 .0 .0 .0 .0 .0 .0 .0 .0 .0 .0 .0 .0 .0 .0 .0 .1),
-      ne-eqb k 9 (n .0 .0 .0 .0 .0 .0 .0 .0 .0 .0 .0 .0 .0 .0 .0 .0 .0 .0 .1),
-      ne-eqb k 10 (n .0 .0 .0 .0 .0 .0 .0 .0 .0 .0 .0 .0 .0 .0 .0 .0 .0 .1),
-      ne-eqb k 11 (n .0 .0 .0 .0 .0 .0 .0 .0 .0 .0 .0 .0 .0 .0 .0 .0 .1),
-      ne-eqb k 12 (n .0 .0 .0 .0 .0 .0 .0 .0 .0 .0 .0 .0 .0 .0 .0 .1),
-      ne-eqb k 13 (n .0 .0 .0 .0 .0 .0 .0 .0 .0 .0 .0 .0 .0 .0 .1),
-      ne-eqb k 14 (n .0 .0 .0 .0 .0 .0 .0 .0 .0 .0 .0 .0 .0 .1),
-      ne-eqb k 15 (n .0 .0 .0 .0 .0 .0 .0 .0 .0 .0 .0 .0 .1),
-      ne-eqb k 16 (n .0 .0 .0 .0 .0 .0 .0 .0 .0 .0 .0 .1),
-      ne-eqb k 17 (n .0 .0 .0 .0 .0 .0 .0 .0 .0 .0 .1),
-      ne-eqb k 18 (n .0 .0 .0 .0 .0 .0 .0 .0 .0 .1),
-      ne-eqb k 19 (n .0 .0 .0 .0 .0 .0 .0 .0 .1),
-      ne-eqb k 20 (n .0 .0 .0 .0 .0 .0 .0 .1),
-      ne-eqb k 21 (n .0 .0 .0 .0 .0 .0 .1),
-      ne-eqb k 22 (n .0 .0 .0 .0 .0 .1),
-      ne-eqb k 23 (n .0 .0 .0 .0 .1),
-      ne-eqb k 24 (n .0 .0 .0 .1),
-      ne-eqb k 25 (n .0 .0 .1),
-      ne-eqb k 26 (n .0 .1),
-      ne-eqb k 27 (n .1),
-    ) (ap (λ (v : Value). Constant v) (c .constant-of .ensures))
+returns-5 c =
+    let m = c .before in
+    let if1 = m .before .before .if1 in
+    let test = m .before .before .before .is-reference in
+    let args = m .before .before .before .before .args in
+    of-none (args .second) (args .kind) (args .a) (args .b) (test .ensures) (if1 .left) (m .before .arity .ensures) (m .match .rest) (c .constant-of .ensures)
 
 pub node-of-spec : {M : Type 1} → statement M
 node-of-spec =
-    tie.close (tie.spec (λ c κs. search needs) returns returns-2 returns-3 returns-4 returns-5
-    returns-6 returns-7 returns-8 returns-9 returns-10 returns-11 returns-12 returns-13 returns-14
-    returns-15 returns-16 returns-17 returns-18 returns-19 returns-20 returns-21 returns-22)
+    tie.close
+    (tie.spec
+    (λ c κs. search needs)
+    returns
+    (λ c κs. search needs)
+    (λ c κs. search needs)
+    (λ c κs. search needs)
+    (λ c κs. search needs)
+    returns-2
+    returns-3
+    returns-4
+    returns-5)

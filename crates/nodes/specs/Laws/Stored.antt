@@ -15,6 +15,7 @@ use Rattle.syntax.specs.declared.Binary.the-variants.{Or, And, Equal, NotEqual,
 use Rattle.syntax.specs.declared.Unary.{Unary}
 use Rattle.syntax.specs.declared.Unary.the-variants.{Not, Plus, Minus}
 use Rattle.ad.specs.Layout.{literalNode, unaryKind, binaryKind, scopeKind}
+use Rattle.ad.specs.Stored.{arity, unaryOf, binaryOf}
 use Rattle.reals.specs.Reals.{literalReal, storedReal}
 use Rattle.values.specs.declared.Value.{Value}
 use Rattle.values.specs.declared.Value.the-variants.{Integer, Real, String}
@@ -34,7 +35,7 @@ LiteralFits o (string l) = (o < 65536) × (length l < 65536)
 -- A STORED LITERAL HAS THE LITERAL'S VALUE
 pub literal-value : (second : Bool) (o : ℕ) (l : Literal) → LiteralFits o l →
     nodeOf second (getD (literalNode o l) 0 0) (getD (literalNode o l) 1 0) (getD (literalNode o l) 2 0) ≡ Constant (literalValue second o l)
-unfolding literalNode literalValue LiteralFits
+unfolding literalNode literalValue LiteralFits arity
 literal-value second o undefined h = refl
 literal-value second o error h = refl
 literal-value second o (boolean true) h = refl
@@ -53,14 +54,17 @@ reference-node second own a b = refl
 reference-node second other a b = refl
 
 pub unary-node : (second : Bool) (u : Unary) (a b : ℕ) → nodeOf second (unaryKind u) a b ≡ OfOne u
+unfolding arity unaryOf
 unary-node second Not a b = refl
 unary-node second Plus a b = refl
 unary-node second Minus a b = refl
 
 pub conditional-node : (second : Bool) (a b : ℕ) → nodeOf second 12 a b ≡ Conditional
+unfolding arity
 conditional-node second a b = refl
 
 pub binary-node : (second : Bool) (j : Binary) (a b : ℕ) → nodeOf second (binaryKind j) a b ≡ OfTwo j
+unfolding arity binaryOf
 binary-node second Or a b = refl
 binary-node second And a b = refl
 binary-node second Equal a b = refl

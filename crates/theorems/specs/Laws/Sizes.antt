@@ -5,8 +5,6 @@ use mathlib.Core.Bool.{Bool, true, false, cond}
 use mathlib.Core.List.{List, [], _∷_, map}
 use lib.Pow.{pow-pos}
 use lib.Dec.{eqb}
-use Rattle.syntax.specs.declared.Binary.the-variants.{Or, And, Equal, NotEqual, Is, Isnt, Less, LessOrEqual, Greater, GreaterOrEqual, Add, Subtract, Multiply, Divide, Remainder}
-use Rattle.syntax.specs.declared.Unary.the-variants.{Not, Plus, Minus}
 use Rattle.integers.specs.Integers.{width}
 use Rattle.reals.specs.Reals.{storedReal}
 use Rattle.reals.proofs.Literals.{stored-fits}
@@ -22,7 +20,7 @@ use Rattle.nodes.specs.declared.Node.{Node}
 use Rattle.nodes.specs.declared.Node.the-variants.{Constant, Reference, OfOne, OfTwo, Conditional}
 use Rattle.nodes.specs.Nodes.{constantOf, nodeOf, applied, valueIn}
 use Rattle.links.specs.Laws.Soundness.{both-each}
-use Rattle.ad.specs.Stored.{kindAt, operandAt}
+use Rattle.ad.specs.Stored.{kindAt, operandAt, arity, unaryOf, binaryOf, isReference}
 use Rattle.evaluation.specs.Evaluation.{nodeFrom, nodeAt, ruleAt, seen}
 
 -- a literal's value fits
@@ -51,27 +49,10 @@ constant-sized s k a b =
 
 node-sized : (s : Bool) (k a b : ℕ) → SizedNode (nodeOf s k a b)
 node-sized s k a b =
-    pick (eqb k 7) Reference _ tt
-    (pick (eqb k 8) Reference _ tt
-    (pick (eqb k 9) (OfOne Not) _ tt
-    (pick (eqb k 10) (OfOne Plus) _ tt
-    (pick (eqb k 11) (OfOne Minus) _ tt
-    (pick (eqb k 12) Conditional _ tt
-    (pick (eqb k 13) (OfTwo Or) _ tt
-    (pick (eqb k 14) (OfTwo And) _ tt
-    (pick (eqb k 15) (OfTwo Equal) _ tt
-    (pick (eqb k 16) (OfTwo NotEqual) _ tt
-    (pick (eqb k 17) (OfTwo Is) _ tt
-    (pick (eqb k 18) (OfTwo Isnt) _ tt
-    (pick (eqb k 19) (OfTwo Less) _ tt
-    (pick (eqb k 20) (OfTwo LessOrEqual) _ tt
-    (pick (eqb k 21) (OfTwo Greater) _ tt
-    (pick (eqb k 22) (OfTwo GreaterOrEqual) _ tt
-    (pick (eqb k 23) (OfTwo Add) _ tt
-    (pick (eqb k 24) (OfTwo Subtract) _ tt
-    (pick (eqb k 25) (OfTwo Multiply) _ tt
-    (pick (eqb k 26) (OfTwo Divide) _ tt
-    (pick (eqb k 27) (OfTwo Remainder) (Constant (constantOf s k a b)) tt (constant-sized s k a b)))))))))))))))))))))
+    pick (isReference k) Reference _ tt
+    (pick (eqb (arity k) 1) (OfOne (unaryOf k)) _ tt
+    (pick (eqb (arity k) 2) (OfTwo (binaryOf k)) _ tt
+    (pick (eqb (arity k) 3) Conditional (Constant (constantOf s k a b)) tt (constant-sized s k a b))))
 
 applied-sized : (first second : List ℕ) (n : Node) (a b c : Value) → SizedNode n → Sized a → Sized b → Sized c → Sized (applied first second n a b c)
 applied-sized first second (Constant v) a b c h p q r = h
