@@ -5,7 +5,7 @@ ghost use Prim.Native.Nat.{_-_, _^_, _≤_, _<_};
 ghost use lib.ListN.{length, replicate};
 ghost use lib.Dec.{ltb};
 ghost use Rattle.integers.specs.Integers.{width};
-ghost use Rattle.values.specs.Values.{bytesAt};
+ghost use Rattle.values.specs.Values.{bytesAt, PartFrom};
 ghost use Rattle.links.specs.Pair.{Formed};
 ghost use Rattle.dependency.specs.Traversal.{Ready};
 ghost use Rattle.matching.specs.Matching.{isTrue, rankOf, worthAt, Match, Well, Matched, shownAt};
@@ -226,6 +226,7 @@ pub fn string_bytes<'a>(
     length: u16,
 ) -> &'a [u8]
     ensures { λ r. ⌜ now r ≡ bytesAt (now (first .entry)) (now (second .entry)) side offset length ⌝ }
+    ensures place { λ r. ⌜ PartFrom (cond side (second .entry) (first .entry)) offset r ⌝ }
 {
     values::part(first, second, side, offset, length)
 }

@@ -1,3 +1,4 @@
 pub mod Leaves
+pub mod Sizes
 pub mod Trees
 pub mod Ads

@@ -20,6 +20,8 @@ use Rattle.well_formed.specs.Laws.Leaves.{Run}
 use Rattle.well_formed.specs.Laws.Trees.{unary-parts, binary-parts, conditional-parts, leaf-parts}
 use Rattle.well_formed.specs.Laws.Operands.{run-leaf, run-one, run-two, run-three}
 use Rattle.printer.specs.Post.{bindsKind, wrapped, Fits, Written, LeafFits, LeafWritten}
+use Rattle.printer.specs.Sizes.{treeSize}
+use Rattle.printer.proofs.Sizes.{one-smaller, two-smaller, three-smaller}
 
 -- ---- the same by another name
 
@@ -157,8 +159,8 @@ module _ (w b : List ℕ) (i at : ℕ) (o : List ℕ) where
       pub one-near : Near at (unaryText (unaryOf (kindAt w i)))
       one-near = let z = run-one (f .tree) (f .stands) h g in omega (arith, one-long z)
 
-      pub one-falls : operandAt w i 0 < i
-      one-falls = run-one (f .tree) (f .stands) h g .2
+      pub one-falls : treeSize w (operandAt w i 0) < treeSize w i
+      one-falls = one-smaller (f .tree) (f .stands) h g
 
       pub one-fits : (m : ℕ) → m ≡ at + length (unaryText (unaryOf (kindAt w i))) → Fits (wrapped 7) w b (operandAt w i 0) m
       one-fits m e =
@@ -194,8 +196,8 @@ module _ (w b : List ℕ) (i at : ℕ) (o : List ℕ) where
           let n : Near at (printed (binary (binaryOf (kindAt w i)) (z .0) (z .1))) = subst (λ (x : Expr). Near at (printed x)) (z .2) (f .near) in
           omega (arith, length-two (z .0) (z .1))
 
-      pub two-falls : (operandAt w i 0 < i) × (operandAt w i 1 < i)
-      two-falls = let z = run-two (f .tree) (f .stands) h in (z .3, z .4)
+      pub two-falls : (treeSize w (operandAt w i 0) < treeSize w i) × (treeSize w (operandAt w i 1) < treeSize w i)
+      two-falls = two-smaller (f .tree) (f .stands) h
 
       pub two-fits : Fits (wrapped (bindsOf (binaryOf (kindAt w i)))) w b (operandAt w i 0) at
       two-fits =
@@ -232,8 +234,8 @@ module _ (w b : List ℕ) (i at : ℕ) (o : List ℕ) where
           let n : Near at (printed (conditional (z .0) (z .1) (z .2))) = subst (λ (x : Expr). Near at (printed x)) (z .3) (f .near) in
           omega (arith, length-three (z .0) (z .1) (z .2))
 
-      pub three-falls : (operandAt w i 0 < i) × (operandAt w i 1 < i) × (operandAt w i 2 < i)
-      three-falls = let z = run-three (f .tree) (f .stands) h in (z .4, z .5, z .6)
+      pub three-falls : (treeSize w (operandAt w i 0) < treeSize w i) × (treeSize w (operandAt w i 1) < treeSize w i) × (treeSize w (operandAt w i 2) < treeSize w i)
+      three-falls = three-smaller (f .tree) (f .stands) h
 
       pub three-fits : Fits (wrapped 1) w b (operandAt w i 0) at
       three-fits =

@@ -11,7 +11,7 @@ returns c =
     let args = b2 .before .before .before .before .args in
     placed (args .first .now) (args .second .now) _ (args .offset) (args .length)
     (b2 .before .side-length .result) (b2 .least .result) _ _ (b2 .before .side-length .ensures)
-    (b2 .least .ensures) (c .before .string-bytes .ensures) refl
+    (b2 .least .ensures) (c .before .string-bytes .ensures .0) refl
 
 pub classad-string-spec : {M : Type 1} → statement M
 classad-string-spec = tie.close (tie.spec

@@ -14,7 +14,7 @@ returns c =
     rw (c .before .before .before .before .a4 .given .1, c .before .before .if1 .taken)
     (c .is-string .ensures
     ∙ ap (λ (s : List ℕ). sameString (now (a .first)) (now (a .second)) s (a .b))
-    (c .before .cut .ensures))
+    (c .before .cut .ensures .0))
 
 returns-2 : tie.Need-returns-2
 returns-2 c = rw (c .before .enum-told .given .1) (c .is-undefined .ensures)
@@ -37,7 +37,7 @@ returns-7 c =
     rw (c .before .before .before .before .a4 .given .1, c .before .before .if1 .left)
     (c .is-string2 .ensures
     ∙ ap (λ (s : List ℕ). sameString (now (a .first)) (now (a .second)) s (a .b))
-    (c .before .cut2 .ensures))
+    (c .before .cut2 .ensures .0))
 
 pub same-spec : {M : Type 1} → statement M
 same-spec =

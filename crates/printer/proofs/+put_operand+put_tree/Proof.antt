@@ -11,6 +11,7 @@ use Rattle.syntax.specs.Print.{unaryText, binaryText}
 use Rattle.syntax.specs.declared.Binary.{Binary}
 use Rattle.syntax.specs.declared.Unary.{Unary}
 use Rattle.ad.specs.Stored.{kindAt, operandAt, unaryOf, binaryOf}
+use Rattle.printer.specs.Sizes.{treeSize}
 use borrow.Author.Needs.{needs}
 use native.Mathlib.Omega.{arith}
 use Prim.Native.Nat.{ℕ, _<_}
@@ -37,10 +38,10 @@ use Rattle.printer.proofs.+put_operand+put_tree.{statement}
 use Rattle.printer.proofs.+put_operand+put_tree.Tie.{close}
 
 abbrev μ-put-operand : Measures 3 put-operand-kinds.ps ℕ
-μ-put-operand κs a = 2 * a .1 .1 .1 .0 + 1
+μ-put-operand κs a = 2 * treeSize (a .0 .now) (a .1 .1 .1 .0) + 1
 
 abbrev μ-put-tree : Measures 3 put-tree-kinds.ps ℕ
-μ-put-tree κs a = 2 * a .1 .1 .0
+μ-put-tree κs a = 2 * treeSize (a .0 .now) (a .1 .1 .0)
 
 abbrev put-operand-at : ℕ → In 3 put-operand-kinds.ps
 put-operand-at t =
@@ -214,15 +215,15 @@ put-tree-put-operand-requires t c κs =
     let b7 = b6 .before in
     let b9 = b7 .before .before in
     let start = b9 .before .before .before .before in
-    let args = start .args in (
-      let h = one-falls (args .words .now) (args .bytes .now) (args .i) (args .at) []
+    let args = start .args in
+    let words = args .words .now in (
+      let h = one-falls words (args .bytes .now) (args .i) (args .at) []
           (rw (b9 .kind .ensures) at (b7 .before .if1 .left))
           (rw (b9 .kind .ensures) at (b6 .if2 .taken)) (start .pre .1) in
-          omega (arith, b7 .operand .ensures, start .pre .0),
-      fits-as (args .words .now) (args .bytes .now) 7 7 (b7 .operand .result)
-          (operandAt (args .words .now) (args .i) 0) (b3 .put-unary .result) refl
-          (b7 .operand .ensures) (one-fits (args .words .now) (args .bytes .now) (args .i)
-          (args .at) [] (rw (b9 .kind .ensures) at (b7 .before .if1 .left))
+          omega (arith, ap (treeSize words) (b7 .operand .ensures), start .pre .0),
+      fits-as words (args .bytes .now) 7 7 (b7 .operand .result) (operandAt words (args .i) 0)
+          (b3 .put-unary .result) refl (b7 .operand .ensures) (one-fits words (args .bytes .now)
+          (args .i) (args .at) [] (rw (b9 .kind .ensures) at (b7 .before .if1 .left))
           (rw (b9 .kind .ensures) at (b6 .if2 .taken)) (start .pre .1) (b3 .put-unary .result)
           (b3 .put-unary .ensures .behind
           ∙ ap (λ (u : Unary). args .at + length (unaryText u))
@@ -264,14 +265,14 @@ put-tree-put-operand-requires-2 t c κs =
     let b5 = b2 .before .before .before in
     let b7 = b5 .before .before in
     let start = b7 .before .before .before .before in
-    let args = start .args in (
-      let h = three-falls (args .words .now) (args .bytes .now) (args .i) (args .at)
-          (args .out .now) (sym (b7 .kind .ensures) ∙ b2 .if3 .taken) (start .pre .1) in
-          omega (arith, b5 .operand .ensures, start .pre .0),
-      fits-as (args .words .now) (args .bytes .now) 1 1 (b5 .operand .result)
-          (operandAt (args .words .now) (args .i) 0) (args .at) refl (b5 .operand .ensures)
-          (three-fits (args .words .now) (args .bytes .now) (args .i) (args .at) (args .out .now)
-          (sym (b7 .kind .ensures) ∙ b2 .if3 .taken) (start .pre .1)),
+    let args = start .args in
+    let words = args .words .now in (
+      let h = three-falls words (args .bytes .now) (args .i) (args .at) (args .out .now)
+          (sym (b7 .kind .ensures) ∙ b2 .if3 .taken) (start .pre .1) in
+          omega (arith, ap (treeSize words) (b5 .operand .ensures), start .pre .0),
+      fits-as words (args .bytes .now) 1 1 (b5 .operand .result) (operandAt words (args .i) 0)
+          (args .at) refl (b5 .operand .ensures) (three-fits words (args .bytes .now) (args .i)
+          (args .at) (args .out .now) (sym (b7 .kind .ensures) ∙ b2 .if3 .taken) (start .pre .1)),
     )
 
 put-tree-put-requires : (t : ℕ) → put-tree-lts.Need-put-requires (put-tree-claims t) (put-tree-at t) put-tree.Post
@@ -301,7 +302,7 @@ put-tree-put-tree-requires t c κs =
     let words = args .words .now in (
       let h = three-falls words (args .bytes .now) (args .i) (args .at) (args .out .now)
           (sym (b16 .kind .ensures) ∙ b11 .if3 .taken) (start .pre .1) in
-          omega (arith, b11 .before .operand2 .ensures, start .pre .0),
+          omega (arith, ap (treeSize words) (b11 .before .operand2 .ensures), start .pre .0),
       tree-fits-as words (args .bytes .now) (b11 .before .operand2 .result)
           (operandAt words (args .i) 1) (b3 .put .result) (b11 .before .operand2 .ensures)
           (three-second words (args .bytes .now) (args .i) (args .at) (args .out .now)
@@ -349,7 +350,7 @@ put-tree-put-tree-requires-2 t c κs =
     let bytes = args .bytes .now in (
       let h = three-falls words bytes (args .i) (args .at) (args .out .now)
           (sym (b25 .kind .ensures) ∙ b20 .if3 .taken) (start .pre .1) in
-          omega (arith, b19 .operand3 .ensures, start .pre .0),
+          omega (arith, ap (treeSize words) (b19 .operand3 .ensures), start .pre .0),
       tree-fits-as words bytes (b19 .operand3 .result) (operandAt words (args .i) 2)
           (b3 .put2 .result) (b19 .operand3 .ensures) (three-third words bytes (args .i) (args .at)
           (args .out .now) (sym (b25 .kind .ensures) ∙ b20 .if3 .taken) (start .pre .1) _ _
@@ -397,7 +398,7 @@ put-tree-put-operand-requires-3 t c κs =
       let h = two-falls words (args .bytes .now) i (args .at) (args .out .now) (above words i
           (rw (b8 .kind .ensures) at (b5 .if2 .left)) (λ z. b3 .if3 .left (b8 .kind .ensures ∙ z)))
           (start .pre .1) in
-          omega (arith, b5 .before .operand .ensures, start .pre .0),
+          omega (arith, ap (treeSize words) (b5 .before .operand .ensures), start .pre .0),
       fits-as words (args .bytes .now) (c .before .binds .result)
           (bindsOf (binaryOf (kindAt words i))) (b5 .before .operand .result) (operandAt words i 0)
           (args .at) (c .before .binds .ensures
@@ -450,7 +451,7 @@ put-tree-put-operand-requires-4 t c κs =
       let h = two-falls words (args .bytes .now) i (args .at) (args .out .now) (above words i
           (rw (b16 .kind .ensures) at (b13 .if2 .left))
           (λ z. b10 .before .if3 .left (b16 .kind .ensures ∙ z))) (start .pre .1) in
-          omega (arith, b12 .operand2 .ensures, start .pre .0),
+          omega (arith, ap (treeSize words) (b12 .operand2 .ensures), start .pre .0),
       fits-as words (args .bytes .now) (b9 .binds .result + 1)
           (bindsOf (binaryOf (kindAt words i)) + 1) (b12 .operand2 .result) (operandAt words i 1)
           (b3 .put-binary .result) (ap (λ (u : ℕ). u + 1) (b9 .binds .ensures
