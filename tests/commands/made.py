@@ -86,25 +86,37 @@ def refused(file, number, before, column, phrase, line):
 
 def write_refusals(folder):
     """Bounds that take a large text: 1,024 bytes of a string, 256 definitions, 1,024 nodes."""
-    definitions = [b"d%d = 1;\n" % number for number in range(257)]
-    few = b"[" + b"".join(definitions[:256])
+    few = b"[" + b"".join(b"d%d = 1;\n" % number for number in range(256))
     nodes = b"[a = -1\n" + b"+ 1\n" * 511
-    files = {
-        "string-1024.ad": b'[a = "' + b"s" * 1023 + b'\\n"]',
-        "string-1025.ad": b'[a =\n"' + b"s" * 1024 + b'\\n"]',
-        "definitions-256.ad": few + b"]",
-        "definitions-257.ad": few + definitions[256] + b"]",
-        "nodes-1024.ad": nodes + b"]",
-        "nodes-1025.ad": nodes + b"+ 1]",
-    }
-    too_long, too_many = "name over 64 bytes or string over 1,024 bytes", "over 256 definitions or over 1,024 nodes"
-    output = b"string-1024.ad: accepted, 1 definitions, 1 nodes\n"
-    output += refused("string-1025.ad", 7, b"[a =\n", 1, too_long, '"' + "s" * 1024 + '\\n"]')
-    output += b"definitions-256.ad: accepted, 256 definitions, 256 nodes\n"
-    output += refused("definitions-257.ad", 9, few, 1, too_many, "d256 = 1;")
-    output += b"nodes-1024.ad: accepted, 1 definitions, 1024 nodes\n"
-    output += refused("nodes-1025.ad", 9, nodes, 1, too_many, "+ 1]")
-    write(folder / "check-bounds", ["check", *files], output, status=1, files=files)
+    semicolon = b"[a = -1\n" + b"+ 1\n" * 510 + b'+ ";"'
+    string, definitions, count = "string over 1,024 bytes", "over 256 definitions", "over 1,024 nodes"
+    rows = [
+        ("string-1024.ad", b'[a = "' + b"s" * 1023 + b'\\n"]', b"1 definitions, 1 nodes"),
+        ("string-1025.ad", b"[a =\n", b'"' + b"s" * 1024 + b'\\n"]', 7, string),
+        ("definitions-256.ad", few + b"]", b"256 definitions, 256 nodes"),
+        ("definitions-257.ad", few, b"d256 = 1;\n]", 9, definitions),
+        ("definition-behind-blanks.ad", few + b"\r\t \n", b"d256 = 1]", 9, definitions),
+        ("nodes-1024.ad", nodes + b"]", b"1 definitions, 1024 nodes"),
+        ("nodes-1025.ad", nodes, b"+ 1]", 9, count),
+        ("node-of-a-definition.ad", nodes + b"; b =\n", b"1]", 9, count),
+        ("node-behind-semicolon-in-string.ad", semicolon + b"\r\n", b"? 1 : 2]", 9, count),
+    ]
+    write_checks(folder / "check-bounds", rows)
+
+
+def write_checks(folder, rows):
+    """A check of files: of each its name, text and counts, or its name, the text before the place, that from the place
+    on, which begins a line, number and phrase."""
+    files, output = {}, b""
+    for name, *row in rows:
+        if len(row) == 2:
+            files[name] = row[0]
+            output += b"%s: accepted, %s\n" % (name.encode(), row[1])
+        else:
+            before, behind, number, phrase = row
+            files[name] = before + behind
+            output += refused(name, number, before, 1, phrase, behind.split(b"\n")[0].decode())
+    write(folder, ["check", *files], output, status=1, files=files)
 
 
 def write_prints(folder):

@@ -58,7 +58,7 @@ impl Ad {
                 definitions: definitions as usize,
                 nodes: nodes as usize,
             }),
-            [number, place, _] => Err(Refusal::new(number, place)),
+            [number, place, _] => Err(Refusal::of_text(number, place, text)),
         }
     }
 
@@ -66,7 +66,7 @@ impl Ad {
     /// beyond [`WORDS`] and [`BYTES`] is no part of the ad.
     ///
     /// ```
-    /// use classad::Ad;
+    /// use classad::{Ad, Refusal};
     ///
     /// let ad: Ad = "[a = 1]".parse()?;
     /// let (words, bytes) = ad.stored();
@@ -74,8 +74,7 @@ impl Ad {
     ///
     /// let mut damaged = words.to_vec();
     /// damaged[1] = 1 << 31; // the Integer, one over its range
-    /// let refusal = Ad::from_stored(&damaged, bytes).unwrap_err();
-    /// assert_eq!(refusal.number(), 10);
+    /// assert_eq!(Ad::from_stored(&damaged, bytes), Err(Refusal::NotWellFormed));
     /// # Ok::<(), classad::Refusal>(())
     /// ```
     ///
@@ -91,7 +90,7 @@ impl Ad {
                 definitions: definitions as usize,
                 nodes: nodes as usize,
             }),
-            [number, ..] => Err(Refusal::new(number, 0)),
+            [number, ..] => Err(Refusal::without_place(number)),
         }
     }
 
@@ -190,7 +189,7 @@ fn printed(call: impl FnOnce(&mut [u8], &mut [u64; 2])) -> Result<String, Refusa
             output.truncate(length as usize);
             Ok(String::from_utf8(output).expect("printed text is ASCII"))
         }
-        [number, _] => Err(Refusal::new(number, 0)),
+        [number, _] => Err(Refusal::without_place(number)),
     }
 }
 

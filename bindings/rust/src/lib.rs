@@ -34,5 +34,5 @@ mod value;
 pub use ad::{Ad, Definition};
 pub use dependencies::Dependencies;
 pub use matching::{Entry, Match, Side};
-pub use refusal::{Position, Refusal};
+pub use refusal::{BadToken, MisplacedToken, NumberTooLarge, Place, Refusal, TooLong, TooMany};
 pub use value::Value;

@@ -1,6 +1,6 @@
 //! The lines of the command. docs/COMMANDS.md gives each byte of them; file names are bytes.
 
-use classad::{Ad, Entry, Match, Refusal, Side};
+use classad::{Ad, Entry, Match, Place, Refusal, Side};
 use std::ffi::OsStr;
 use std::io;
 
@@ -26,18 +26,12 @@ pub fn accepted(file: &OsStr, ad: &Ad) -> Vec<u8> {
 /// One line where the place is 0 by rule; otherwise three, the last of which has a caret
 /// below the place.
 pub fn refused(file: &OsStr, text: &[u8], refusal: &Refusal) -> Vec<u8> {
-    let (number, place, phrase) = (refusal.number(), refusal.place(), refusal.phrase());
-    if !refusal.has_place() {
-        return about(file, &format!("refused {number} at {place}: {phrase}\n"));
+    let mut lines = format!("{refusal}\n");
+    if let Some(Place { byte, column, .. }) = refusal.place() {
+        let shown = shown_line(&text[byte - (column - 1)..]);
+        let margin = " ".repeat(column - 1);
+        lines += &format!("{shown}\n{margin}^\n");
     }
-    let position = refusal.position(text);
-    let (line, column) = (position.line, position.column);
-    let shown = shown_line(&text[place - (column - 1)..]);
-    let margin = " ".repeat(column - 1);
-    let lines = format!(
-        "refused {number} at {place} (line {line}, column {column}): {phrase}\n\
-         {shown}\n{margin}^\n"
-    );
     about(file, &lines)
 }
 
