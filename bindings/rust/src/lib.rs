@@ -4,8 +4,8 @@
 //! use classad::{Ad, Match};
 //!
 //! let job: Ad = "[PulseWidth = 25; Requirements = true; Rank = other.Free]".parse()?;
-//! let machine: Ad = "[Free = 3; Requirements = !(other.PulseWidth > 50)]".parse()?;
-//! let matching = Match::new(&job, &machine);
+//! let bench: Ad = "[Free = 3; Requirements = !(other.PulseWidth > 50)]".parse()?;
+//! let matching = Match::new(&job, &bench);
 //! assert!(matching.is_matched());
 //! assert_eq!(matching.ranks(), Some((3, 0)));
 //! # Ok::<(), classad::Refusal>(())
@@ -24,6 +24,7 @@
 
 mod ad;
 pub mod bounds;
+mod definition;
 mod dependencies;
 mod matching;
 mod refusal;
@@ -31,7 +32,8 @@ mod refusal;
 pub mod sys;
 mod value;
 
-pub use ad::{Ad, Definition};
+pub use ad::Ad;
+pub use definition::{Definition, Reference};
 pub use dependencies::Dependencies;
 pub use matching::{Entry, Match, Side};
 pub use refusal::{BadToken, MisplacedToken, NumberTooLarge, Place, Refusal, TooLong, TooMany};

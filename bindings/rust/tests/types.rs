@@ -15,7 +15,7 @@ fn refusal(text: &[u8]) -> Refusal {
 fn shown(expression: &str) -> String {
     let first = ad(&format!("[Rank = {expression}]"));
     let second = ad("[]");
-    let root = first.definitions().next().unwrap().root;
+    let root = first.definition("rank").unwrap().root;
     let value = Match::new(&first, &second).value(Side::First, root);
     value.unwrap().to_string()
 }
@@ -95,10 +95,50 @@ fn nodes_that_are_not_there() {
     assert_eq!(unneeded.value(Side::First, 2), None);
     assert_eq!(unneeded.value(Side::First, NODES), None);
     assert_eq!(unneeded.value(Side::Second, usize::MAX), None);
-    assert_eq!(first.definition_of(usize::MAX), None);
+    assert!(first.definition_of(usize::MAX).is_none());
     assert_eq!(first.expression(usize::MAX), Ok(None));
     let found = Dependencies::new(&first, &first);
     assert!(!found.is_circular(Side::First, NODES));
+}
+
+#[test]
+fn definitions_are_found_in_any_case() {
+    let empty = ad("[]");
+    assert!(empty.definition("a").is_none() && empty.definition("").is_none());
+    assert_eq!(
+        (empty.definitions().len(), empty.references().count()),
+        (0, 0)
+    );
+    let bench = ad("[Free = 1 + x; _a = \"b\"; requirements = OTHER . Free]");
+    let found = |name| bench.definition(name).map(|it| (it.name, it.root));
+    assert_eq!(found("FREE"), Some(("Free", 2)));
+    assert_eq!(found("_A"), Some(("_a", 3)));
+    assert_eq!(found("Requirements"), Some(("requirements", 4)));
+    assert_eq!([found("Fre"), found("Freee"), found("x")], [None; 3]);
+    let texts: Vec<String> = bench
+        .definitions()
+        .map(|it| format!("{} = {}", it.name, it.expression().unwrap()))
+        .collect();
+    assert_eq!(bench.to_string(), format!("[{}]", texts.join("; ")));
+    let references = bench.references().map(|it| (it.node, it.name, it.is_other));
+    let expected = [(1, "x", false), (4, "Free", true)];
+    assert_eq!(references.collect::<Vec<_>>(), expected);
+}
+
+#[test]
+fn requirements_and_ranks_of_each_side() {
+    let first = ad("[REQUIREMENTS = true; Rank = other.a]");
+    let second = ad("[a = 2; Rank = -1]");
+    let finished = Match::new(&first, &second);
+    let values = [Side::First, Side::Second].map(|side| finished.requirements(side));
+    assert_eq!(values, [Some(Value::Boolean(true)), None]);
+    let ranks = [Side::First, Side::Second].map(|side| finished.rank(side));
+    assert_eq!(ranks, [Some(2), Some(0)]);
+    let short = Match::with_budget(&first, &second, 0);
+    assert_eq!(short.requirements(Side::First), None);
+    assert_eq!(short.rank(Side::First), None);
+    assert_eq!(Side::First.other(), Side::Second);
+    assert_eq!(Side::Second.other(), Side::First);
 }
 
 #[test]
@@ -217,6 +257,12 @@ fn a_print_that_is_too_long_is_refused() {
     let strings = vec![format!("\"{}\"", "s".repeat(1_000)); 16].join("+");
     let long = ad(&format!("[a={strings};b={}1]", "1+".repeat(150)));
     assert_eq!(long.print(), Err(Refusal::PrintTooLong));
+    assert_eq!(long.to_string(), "(printed text over 16,384 bytes)");
     assert_eq!(format!("{long:?}"), "Ad(2 definitions, 332 nodes)");
     assert_eq!(format!("{:?}", ad("[a=1]")), "Ad([a = 1])");
+    let sum = long.definition("a").unwrap();
+    assert_eq!(sum.expression().unwrap().len(), 16 * 1_002 + 15 * 3);
+    let longer = ad(&format!("[a={strings}+{}1]", "1+".repeat(150)));
+    let whole = longer.definition("a").unwrap();
+    assert_eq!(whole.expression(), Err(Refusal::PrintTooLong));
 }

@@ -1,6 +1,6 @@
 //! The lines of the command. docs/COMMANDS.md gives each byte of them; file names are bytes.
 
-use classad::{Ad, Entry, Match, Place, Refusal, Side};
+use classad::{Ad, Entry, Match, Place, Refusal};
 use std::ffi::OsStr;
 use std::io;
 
@@ -70,12 +70,8 @@ pub fn outcome(it: &Match) -> String {
 pub fn traced(it: &Match, number: usize, entry: Entry) -> String {
     let Entry { side, node } = entry;
     let ad = it.ad(side);
-    let side_word = match side {
-        Side::First => "first",
-        Side::Second => "second",
-    };
     let definition = ad.definition_of(node).expect("an entry has a definition");
-    let name = String::from_utf8_lossy(definition.name);
+    let name = definition.name;
     let expression = match ad.expression(node) {
         Ok(text) => text.expect("an entry has an expression"),
         Err(refusal) => format!("({})", refusal.phrase()),
@@ -84,7 +80,7 @@ pub fn traced(it: &Match, number: usize, entry: Entry) -> String {
         Some(value) => value.to_string(),
         None => "blank".to_string(),
     };
-    format!("{number} {side_word} {name}: {expression} -> {value}\n")
+    format!("{number} {side} {name}: {expression} -> {value}\n")
 }
 
 /// `FILE: `, then what is said of it.
