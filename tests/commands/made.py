@@ -37,6 +37,24 @@ BUDGETS = [
     "18446744073709551616", "18446744073709551621", "9" * 100, "\u0661",
 ]  # fmt: skip
 
+# Expressions of Requirements that are not true, and how their values are shown.
+UNTRUE = [
+    ("false", "false", "false"),
+    ("undefined", "other.none", "undefined"),
+    ("error", "1 / 0", "error"),
+    ("integer", "1", "1"),
+    ("negative", "-2147483647 - 1", "-2147483648"),
+    ("real", "1.0", "1.0"),
+    ("small-real", "0.00000025", "2.5e-7"),
+    ("infinity", "-1 / 0.0", "-infinity"),
+    ("not-a-number", "0 / 0.0", "not-a-number"),
+    ("string", '"true"', '"true"'),
+    ("escapes", r'"\"\\\n\t"', r'"\"\\\n\t"'),
+]
+
+# The steps of those that take more than one.
+STEPS = {"error": 3, "negative": 4, "infinity": 4, "not-a-number": 3}
+
 
 def write_cases(folder):
     """Writes each case as a folder that cases.py describes."""
@@ -49,6 +67,7 @@ def write_cases(folder):
     write_prints(folder)
     write_long_trace(folder, "trace-expression-of-16384", 947, shown=True)
     write_long_trace(folder, "trace-expression-of-16385", 948, shown=False)
+    write_unmatched(folder)
     write_names(folder)
     write_unreadable(folder)
 
@@ -144,9 +163,29 @@ def write_long_trace(folder, name, last, shown):
     if not shown:
         lines[-1] = b"(printed text over 16,384 bytes) -> error"
     output = b"".join(b"%d first Requirements: %s\n" % line for line in enumerate(lines, 1))
-    output += b"unmatched\nfirst rank 0\nsecond rank 0\nsteps 31 of 31\n"
+    output += b"unmatched\nfirst Requirements is error\nsecond ad has no Requirements\n"
+    output += b"first rank 0\nsecond rank 0\nsteps 31 of 31\n"
     files = {"sum.ad": b"[Requirements=" + b"+".join(strings) + b"]"}
     write(folder / name, ["trace", "sum.ad", "-"], output, status=1, given=b"[]", files=files)
+
+
+def write_unmatched(folder):
+    """Requirements of each kind of value that is not true, on either side, and none at all."""
+    rows = [(name, f"[Requirements = {text}]", f"Requirements is {shown}") for name, text, shown in UNTRUE]
+    rows.append(("missing", "[Requirement = true; Rank = Requirements]", "ad has no Requirements"))
+    good = "[rEQUIREMENTS = true]"
+    for name, text, said in rows:
+        steps = STEPS.get(name, 1)
+        for first, second, lines, count in [
+            (text, good, f"first {said}\n", steps + 1),
+            (good, text, f"second {said}\n", steps + 1),
+            (text, text, f"first {said}\nsecond {said}\n", 2 * steps),
+        ]:
+            sides = "both" if first == second else "first" if first == text else "second"
+            output = f"unmatched\n{lines}first rank 0\nsecond rank 0\nsteps {count} of {count}\n".encode()
+            files = {"first.ad": first.encode(), "second.ad": second.encode()}
+            case = folder / f"unmatched-{name}-{sides}"
+            write(case, ["match", *files], output, status=1, files=files)
 
 
 def write_names(folder):

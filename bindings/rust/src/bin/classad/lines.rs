@@ -1,6 +1,6 @@
 //! The lines of the command. docs/COMMANDS.md gives each byte of them; file names are bytes.
 
-use classad::{Ad, Entry, Match, Place, Refusal};
+use classad::{Ad, Entry, Match, Place, Refusal, Side, Value};
 use std::ffi::OsStr;
 use std::io;
 
@@ -56,14 +56,25 @@ pub fn fault(file: &OsStr, fault: &io::Error) -> Vec<u8> {
     line
 }
 
-/// The verdict, the ranks and the steps, or that the match is not done.
+/// The verdict, each Requirements that is not true, the ranks and the steps; or that the match
+/// is not done.
 pub fn outcome(it: &Match) -> String {
     let steps = format!("steps {} of {}\n", it.steps(), it.list().len());
     let (Some(matched), Some((first, second))) = (it.verdict(), it.ranks()) else {
         return format!("not done\n{steps}");
     };
     let word = if matched { "matched" } else { "unmatched" };
-    format!("{word}\nfirst rank {first}\nsecond rank {second}\n{steps}")
+    let untrue = untrue(it, Side::First) + &untrue(it, Side::Second);
+    format!("{word}\n{untrue}first rank {first}\nsecond rank {second}\n{steps}")
+}
+
+/// That the Requirements of an ad are not true; nothing where they are.
+fn untrue(it: &Match, side: Side) -> String {
+    match it.requirements(side) {
+        Some(Value::Boolean(true)) => String::new(),
+        Some(value) => format!("{side} Requirements is {value}\n"),
+        None => format!("{side} ad has no Requirements\n"),
+    }
 }
 
 /// `K SIDE NAME: EXPRESSION -> VALUE`, for entry K of the list.
