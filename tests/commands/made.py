@@ -26,6 +26,10 @@ WRONG = {
     "trace-nothing": ["trace"],
     "trace-one": ["trace", "-"],
     "trace-five": ["trace", "examples/job.ad", "examples/bench.ad", "1", "2"],
+    "graph-nothing": ["graph"],
+    "graph-one": ["graph", "examples/job.ad"],
+    "graph-budget": ["graph", "examples/job.ad", "examples/bench.ad", "5"],
+    "graph-input-twice": ["graph", "-", "-"],
     "check-input-twice": ["check", "-", "examples/job.ad", "-"],
     "match-input-twice": ["match", "-", "-"],
     "trace-input-twice": ["trace", "-", "-", "5"],
@@ -68,6 +72,7 @@ def write_cases(folder):
     write_long_trace(folder, "trace-expression-of-16384", 947, shown=True)
     write_long_trace(folder, "trace-expression-of-16385", 948, shown=False)
     write_unmatched(folder)
+    write_large_graph(folder)
     write_names(folder)
     write_unreadable(folder)
 
@@ -186,6 +191,23 @@ def write_unmatched(folder):
             files = {"first.ad": first.encode(), "second.ad": second.encode()}
             case = folder / f"unmatched-{name}-{sides}"
             write(case, ["match", *files], output, status=1, files=files)
+
+
+def write_large_graph(folder):
+    """As many references as an ad can have, with none of their definitions, and the longest names."""
+    sides, name, holder = [b"first", b"second"], b"Nn" * 32, b"Hh" * 32
+    frame = b'  subgraph cluster_%s {\n    label="%s";\n    "%s.%s" [label="%s"];\n  }\n'
+    absent = b'  subgraph cluster_%s { "%s.%s" [label="%s", style=dashed]; }\n'
+    arrow = b'  "%s.%s" -> "%s.%s" [label="absent", style=dashed];\n'
+    output = b"digraph classad {\n  rankdir=LR;\n  node [shape=box];\n"
+    for side in sides:
+        output += frame % (side, side, side, holder.lower(), holder)
+    for side in sides:
+        short = absent % (side, side, b"n", b"N") + arrow % (side, holder.lower(), side, b"n")
+        long = absent % (side, side, name.lower(), name) + arrow % (side, holder.lower(), side, name.lower())
+        output += short * 300 + long * 212
+    text = b"[" + holder + b"=" + b"N+" * 300 + (name + b"+") * 211 + name + b"]"
+    write(folder / "graph-large", ["graph", "both.ad", "both.ad"], output + b"}\n", files={"both.ad": text})
 
 
 def write_names(folder):

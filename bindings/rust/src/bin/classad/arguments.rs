@@ -10,6 +10,7 @@ pub enum Command {
     Print(OsString),
     Match(Pair),
     Trace(Pair),
+    Graph([OsString; 2]),
 }
 
 /// The two files of a match and its budget.
@@ -27,6 +28,7 @@ pub fn command(arguments: &[OsString]) -> Option<Command> {
         (b"print", [file]) => Some(Command::Print(file.clone())),
         (b"match", _) => pair(rest).map(Command::Match),
         (b"trace", _) => pair(rest).map(Command::Trace),
+        (b"graph", _) => two_files(rest).map(Command::Graph),
         _ => None,
     }
 }
@@ -43,18 +45,16 @@ fn one_input(files: &[OsString]) -> bool {
 
 fn pair(arguments: &[OsString]) -> Option<Pair> {
     let (files, budget) = match arguments {
-        [_, _] => (arguments, DEFAULT_BUDGET),
-        [files @ .., budget] => (files, budget_of(budget.as_encoded_bytes())?),
-        [] => return None,
+        [files @ .., budget] if files.len() == 2 => (files, budget_of(budget.as_encoded_bytes())?),
+        _ => (arguments, DEFAULT_BUDGET),
     };
-    let [first, second] = files else {
-        return None;
-    };
-    let pair = Pair {
-        files: [first.clone(), second.clone()],
-        budget,
-    };
-    Some(pair).filter(|_| one_input(files))
+    let files = two_files(files)?;
+    Some(Pair { files, budget })
+}
+
+fn two_files(arguments: &[OsString]) -> Option<[OsString; 2]> {
+    let files: &[OsString; 2] = arguments.try_into().ok()?;
+    Some(files.clone()).filter(|files| one_input(files))
 }
 
 /// Digits alone, as many as one likes, for a number from 0 to 65,535.

@@ -9,7 +9,9 @@ usage: classad check FILE..
        classad print FILE
        classad match FIRST SECOND [BUDGET]
        classad trace FIRST SECOND [BUDGET]
+       classad graph FIRST SECOND
        classad help
+       classad --version
 FILE, FIRST and SECOND may be - for standard input, at most once.
 BUDGET is digits, 0 to 65535; without it the budget is 65535.
 ";

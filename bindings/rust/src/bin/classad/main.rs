@@ -1,6 +1,7 @@
 //! The command `classad`. docs/COMMANDS.md gives its output and its exit status.
 
 mod arguments;
+mod graph;
 mod input;
 mod lines;
 
@@ -14,7 +15,7 @@ use std::process::ExitCode;
 /// The exit status; of several the largest counts.
 #[derive(Clone, Copy, PartialEq, Eq, PartialOrd, Ord)]
 enum Status {
-    /// Accepted, printed or matched.
+    /// Accepted, printed, matched or drawn; help and version.
     Good = 0,
     /// Refused, unmatched or not done.
     Bad = 1,
@@ -69,6 +70,7 @@ fn run(command: &Command, output: &mut impl Write) -> Result<Status, Stop> {
         Command::Print(file) => print(file, output),
         Command::Match(pair) => match_pair(pair, false, output),
         Command::Trace(pair) => match_pair(pair, true, output),
+        Command::Graph(files) => draw(files, output),
     }
 }
 
@@ -131,6 +133,12 @@ fn trace(matching: &Match, output: &mut impl Write) -> io::Result<()> {
     entries.try_for_each(|(number, &entry)| {
         output.write_all(lines::traced(matching, number, entry).as_bytes())
     })
+}
+
+fn draw(files: &[OsString; 2], output: &mut impl Write) -> Result<Status, Stop> {
+    let [first, second] = ads_of(files)?;
+    output.write_all(graph::graph([&first, &second]).as_bytes())?;
+    Ok(Status::Good)
 }
 
 fn ad_of(file: &OsStr) -> Result<Ad, Stop> {
