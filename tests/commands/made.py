@@ -1,7 +1,8 @@
-"""Cases that are made by a rule: wrong command lines, large texts, names of files."""
+"""Cases that are made by a rule: wrong command lines, large texts, values of Requirements, names of files."""
 
 import os
 import pathlib
+import subprocess
 
 import cases
 
@@ -15,8 +16,13 @@ WRONG = {
     "unknown-command": ["write", "examples/job.ad"],
     "command-in-capitals": ["CHECK", "examples/job.ad"],
     "command-begun": ["matc", "examples/job.ad", "examples/bench.ad"],
-    "option": ["--help"],
+    "unknown-option": ["--graph"],
+    "short-version": ["-v"],
+    "version-without-dashes": ["version"],
     "help-with-argument": ["help", "check"],
+    "help-option-with-argument": ["--help", "examples/job.ad"],
+    "help-letter-twice": ["-h", "-h"],
+    "version-with-argument": ["--version", "-"],
     "check-nothing": ["check"],
     "print-nothing": ["print"],
     "print-two": ["print", "examples/job.ad", "examples/bench.ad"],
@@ -66,6 +72,9 @@ def write_cases(folder):
     wrong |= {f"usage-budget-{number}": MATCH + [budget] for number, budget in enumerate(BUDGETS, 1)}
     for name, words in wrong.items():
         write(folder / name, words, errors=USAGE, status=2, given=b"[]")
+    write(folder / "help-option", ["--help"], USAGE)
+    write(folder / "help-letter", ["-h"], USAGE)
+    write(folder / "version", ["--version"], b"classad 0.1.0\n", files={"more": b"kit %s\n" % kit()})
     write_sizes(folder)
     write_refusals(folder)
     write_prints(folder)
@@ -84,6 +93,15 @@ def write(folder, words, output=b"", errors=b"", status=0, given=b"", files=None
     folder.mkdir()
     for name, content in files.items():
         (folder / name).write_bytes(content)
+
+
+def kit():
+    """What the Rattle kit says of itself, or that there is none."""
+    try:
+        said = subprocess.run(["rt", "version"], capture_output=True, check=True).stdout
+    except (OSError, subprocess.CalledProcessError):
+        return b"unknown"
+    return said.strip()
 
 
 def write_sizes(folder):

@@ -6,6 +6,7 @@ use std::ffi::{OsStr, OsString};
 /// What the command line asks for.
 pub enum Command {
     Help,
+    Version,
     Check(Vec<OsString>),
     Print(OsString),
     Match(Pair),
@@ -23,7 +24,8 @@ pub struct Pair {
 pub fn command(arguments: &[OsString]) -> Option<Command> {
     let (name, rest) = arguments.split_first()?;
     match (name.as_encoded_bytes(), rest) {
-        (b"help", []) => Some(Command::Help),
+        (b"help" | b"--help" | b"-h", []) => Some(Command::Help),
+        (b"--version", []) => Some(Command::Version),
         (b"check", [_, ..]) if one_input(rest) => Some(Command::Check(rest.to_vec())),
         (b"print", [file]) => Some(Command::Print(file.clone())),
         (b"match", _) => pair(rest).map(Command::Match),

@@ -16,6 +16,15 @@ FILE, FIRST and SECOND may be - for standard input, at most once.
 BUDGET is digits, 0 to 65535; without it the budget is 65535.
 ";
 
+/// The program's version, and the kit that its library was proved and built with.
+pub const VERSION: &str = concat!(
+    "classad ",
+    env!("CARGO_PKG_VERSION"),
+    "\nkit ",
+    env!("CLASSAD_KIT"),
+    "\n"
+);
+
 /// `FILE: accepted, D definitions, N nodes`
 pub fn accepted(file: &OsStr, ad: &Ad) -> Vec<u8> {
     let (definitions, nodes) = (ad.definition_count(), ad.node_count());

@@ -62,16 +62,19 @@ fn complain(lines: &[u8]) {
 
 fn run(command: &Command, output: &mut impl Write) -> Result<Status, Stop> {
     match command {
-        Command::Help => {
-            output.write_all(lines::USAGE.as_bytes())?;
-            Ok(Status::Good)
-        }
+        Command::Help => say(lines::USAGE, output),
+        Command::Version => say(lines::VERSION, output),
         Command::Check(files) => check(files, output),
         Command::Print(file) => print(file, output),
         Command::Match(pair) => match_pair(pair, false, output),
         Command::Trace(pair) => match_pair(pair, true, output),
         Command::Graph(files) => draw(files, output),
     }
+}
+
+fn say(text: &str, output: &mut impl Write) -> Result<Status, Stop> {
+    output.write_all(text.as_bytes())?;
+    Ok(Status::Good)
 }
 
 /// Says why a command went no further, and gives its status.
