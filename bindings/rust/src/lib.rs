@@ -11,6 +11,22 @@
 //! # Ok::<(), classad::Refusal>(())
 //! ```
 //!
+//! Where two ads do not match, the Requirements say why, and a text that is refused says where:
+//!
+//! ```
+//! use classad::{Ad, Match, Side, Value};
+//!
+//! let job: Ad = "[Requirements = true]".parse()?;
+//! let bench: Ad = "[Requirements = !(other.PulseWidth > 50)]".parse()?;
+//! let matching = Match::new(&job, &bench);
+//! assert!(!matching.is_matched());
+//! assert_eq!(matching.requirements(Side::Second), Some(Value::Undefined));
+//!
+//! let refusal = "[Requirements = true".parse::<Ad>().unwrap_err();
+//! assert_eq!(refusal.to_string(), "refused 4 at 20 (line 1, column 21): text ends early");
+//! # Ok::<(), classad::Refusal>(())
+//! ```
+//!
 //! An [`Ad`] is well formed, whichever way it was made, so a match of two of them is never
 //! refused; whether it is finished depends on its budget, and only a finished [`Match`] has a
 //! verdict. The types own their memory and call the functions of [`sys`], which are proved as
