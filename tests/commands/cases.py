@@ -4,6 +4,7 @@ A case is a folder:
     arguments   one word to a line
     input       standard input, empty where this file is not there
     output      the expected standard output
+    more        what a program with an exit status prints behind it, and the one without cannot
     errors      the expected standard error, empty where this file is not there
     status      the expected exit status
     bound       there where permissions must bind the command, even if root runs it
@@ -63,11 +64,14 @@ def run_case(program, folder, with_status):
         )
     except subprocess.TimeoutExpired:
         return [f"not ended after {SECONDS} seconds"]
-    differences = difference(folder, "output", done.stdout) + difference(folder, "errors", done.stderr)
+    expected = content(folder / "output") + (content(folder / "more") if with_status else b"")
+    differences = difference(folder, "output", expected, done.stdout)
+    differences += difference(folder, "errors", content(folder / "errors"), done.stderr)
     if done.returncode < 0:
         return differences + [f"ended by signal {-done.returncode}"]
     if with_status:
-        differences += difference(folder, "status", b"%d\n" % done.returncode)
+        status = b"%d\n" % done.returncode
+        differences += difference(folder, "status", content(folder / "status"), status)
     return differences
 
 
@@ -79,8 +83,7 @@ def content(file):
     return file.read_bytes() if file.exists() else b""
 
 
-def difference(folder, part, given):
-    expected = content(folder / part)
+def difference(folder, part, expected, given):
     if expected == given:
         return []
     name = f"{folder.name}/{part}"

@@ -1,13 +1,17 @@
 //! One ad in memory of its own.
 
 use crate::bounds::{BYTES, DEFINITIONS, TEXT_BYTES, WORDS};
-use crate::{sys, Refusal};
+use crate::{sys, Definition, Reference, Refusal};
 use std::fmt;
 use std::str::FromStr;
 
 /// Where the definitions begin in an ad's words, and the words of each (docs/LAYOUT.md).
 const DEFINITIONS_START: usize = WORDS - DEFINITIONS * DEFINITION_WORDS;
 const DEFINITION_WORDS: usize = 3;
+/// The words of a node, and the kinds of nodes that refer to a name.
+const NODE_WORDS: usize = 4;
+const OWN_REFERENCE: u64 = 7;
+const OTHER_REFERENCE: u64 = 8;
 
 /// A well-formed ad: read from a text, or checked where it was stored.
 ///
@@ -24,21 +28,22 @@ const DEFINITION_WORDS: usize = 3;
 /// assert_ne!(Ad::read(b"[a = 1]")?, Ad::read(b"[A = 1]")?);
 /// # Ok::<(), classad::Refusal>(())
 /// ```
+///
+/// Its definitions are found by name, without regard to case:
+///
+/// ```
+/// let bench: classad::Ad = "[Free = 1 + 2; Requirements = !(other.PulseWidth > 50)]".parse()?;
+/// let free = bench.definition("free").unwrap();
+/// assert_eq!((free.name, free.expression()?.as_str()), ("Free", "1 + 2"));
+/// assert!(bench.definition("Rank").is_none());
+/// # Ok::<(), classad::Refusal>(())
+/// ```
 #[derive(Clone, PartialEq, Eq, Hash)]
 pub struct Ad {
     words: Box<[u64]>,
     bytes: Box<[u8]>,
     definitions: usize,
     nodes: usize,
-}
-
-/// A definition of an ad.
-#[derive(Clone, Copy, Debug, PartialEq, Eq, Hash)]
-pub struct Definition<'a> {
-    /// The name as written.
-    pub name: &'a [u8],
-    /// The number of the expression's last node, whose value is that of the whole.
-    pub root: usize,
 }
 
 impl Ad {
@@ -58,7 +63,7 @@ impl Ad {
                 definitions: definitions as usize,
                 nodes: nodes as usize,
             }),
-            [number, place, _] => Err(Refusal::new(number, place)),
+            [number, place, _] => Err(Refusal::of_text(number, place, text)),
         }
     }
 
@@ -66,7 +71,7 @@ impl Ad {
     /// beyond [`WORDS`] and [`BYTES`] is no part of the ad.
     ///
     /// ```
-    /// use classad::Ad;
+    /// use classad::{Ad, Refusal};
     ///
     /// let ad: Ad = "[a = 1]".parse()?;
     /// let (words, bytes) = ad.stored();
@@ -74,8 +79,7 @@ impl Ad {
     ///
     /// let mut damaged = words.to_vec();
     /// damaged[1] = 1 << 31; // the Integer, one over its range
-    /// let refusal = Ad::from_stored(&damaged, bytes).unwrap_err();
-    /// assert_eq!(refusal.number(), 10);
+    /// assert_eq!(Ad::from_stored(&damaged, bytes), Err(Refusal::NotWellFormed));
     /// # Ok::<(), classad::Refusal>(())
     /// ```
     ///
@@ -91,7 +95,7 @@ impl Ad {
                 definitions: definitions as usize,
                 nodes: nodes as usize,
             }),
-            [number, ..] => Err(Refusal::new(number, 0)),
+            [number, ..] => Err(Refusal::without_place(number)),
         }
     }
 
@@ -113,40 +117,78 @@ impl Ad {
     /// The definitions in their order.
     ///
     /// ```
-    /// let ad: classad::Ad = "[a = 1 + 2; b = c]".parse()?;
+    /// let ad: classad::Ad = "[a = 1 + 2; B = c]".parse()?;
+    /// for definition in ad.definitions() {
+    ///     println!("{} = {}", definition.name, definition.expression()?);
+    /// }
     /// let roots: Vec<_> = ad.definitions().map(|it| (it.name, it.root)).collect();
-    /// assert_eq!(roots, [(&b"a"[..], 2), (&b"b"[..], 3)]);
+    /// assert_eq!(roots, [("a", 2), ("B", 3)]);
     /// # Ok::<(), classad::Refusal>(())
     /// ```
     pub fn definitions(&self) -> impl ExactSizeIterator<Item = Definition<'_>> {
-        (0..self.definitions).map(|number| self.definition(number))
+        (0..self.definitions).map(|number| self.numbered(number))
     }
 
-    fn definition(&self, number: usize) -> Definition<'_> {
-        let at = DEFINITIONS_START + DEFINITION_WORDS * number;
-        let [offset, length, root] = [0, 1, 2].map(|word| self.words[at + word] as usize);
-        Definition {
-            name: &self.bytes[offset..offset + length],
-            root,
-        }
+    /// The definition of a name, in whatever case either is written; none where the ad has no
+    /// such definition.
+    pub fn definition(&self, name: &str) -> Option<Definition<'_>> {
+        self.definitions()
+            .find(|it| it.name.eq_ignore_ascii_case(name))
     }
 
     /// The definition that a node belongs to; none where the ad has no such node.
     ///
     /// ```
     /// let ad: classad::Ad = "[a = 1 + 2; b = c]".parse()?;
-    /// assert_eq!(ad.definition_of(1).unwrap().name, b"a");
-    /// assert_eq!(ad.definition_of(3).unwrap().name, b"b");
-    /// assert_eq!(ad.definition_of(4), None);
+    /// assert_eq!(ad.definition_of(1).unwrap().name, "a");
+    /// assert_eq!(ad.definition_of(3).unwrap().name, "b");
+    /// assert!(ad.definition_of(4).is_none());
     /// # Ok::<(), classad::Refusal>(())
     /// ```
     pub fn definition_of(&self, node: usize) -> Option<Definition<'_>> {
         let mut answer = [0; 4];
         sys::definition(&self.words, node, &mut answer);
         match answer {
-            [1, number, ..] => Some(self.definition(number as usize)),
+            [1, number, ..] => Some(self.numbered(number as usize)),
             _ => None,
         }
+    }
+
+    fn numbered(&self, number: usize) -> Definition<'_> {
+        let at = DEFINITIONS_START + DEFINITION_WORDS * number;
+        let [offset, length, root] = [0, 1, 2].map(|word| self.words[at + word]);
+        Definition {
+            ad: self,
+            name: self.name(offset, length),
+            root: root as usize,
+        }
+    }
+
+    /// The references in the order of their nodes, which is that of the text.
+    ///
+    /// ```
+    /// let ad: classad::Ad = "[a = b + other.C]".parse()?;
+    /// let found: Vec<_> = ad.references().map(|it| (it.node, it.name, it.is_other)).collect();
+    /// assert_eq!(found, [(0, "b", false), (1, "C", true)]);
+    /// # Ok::<(), classad::Refusal>(())
+    /// ```
+    pub fn references(&self) -> impl Iterator<Item = Reference<'_>> {
+        (0..self.nodes).filter_map(|node| {
+            let at = NODE_WORDS * node;
+            let [kind, offset, length] = [0, 1, 2].map(|word| self.words[at + word]);
+            let found = kind == OWN_REFERENCE || kind == OTHER_REFERENCE;
+            found.then(|| Reference {
+                node,
+                name: self.name(offset, length),
+                is_other: kind == OTHER_REFERENCE,
+            })
+        })
+    }
+
+    fn name(&self, offset: u64, length: u64) -> &str {
+        let start = offset as usize;
+        let name = &self.bytes[start..start + length as usize];
+        std::str::from_utf8(name).expect("a name is ASCII")
     }
 
     /// The text of the ad, with parentheses only where they are needed. It reads back as an
@@ -190,7 +232,7 @@ fn printed(call: impl FnOnce(&mut [u8], &mut [u64; 2])) -> Result<String, Refusa
             output.truncate(length as usize);
             Ok(String::from_utf8(output).expect("printed text is ASCII"))
         }
-        [number, _] => Err(Refusal::new(number, 0)),
+        [number, _] => Err(Refusal::without_place(number)),
     }
 }
 
@@ -199,6 +241,23 @@ impl FromStr for Ad {
 
     fn from_str(text: &str) -> Result<Ad, Refusal> {
         Ad::read(text.as_bytes())
+    }
+}
+
+/// The text of the ad, as [`print`](Ad::print) gives it. Where that is refused, the phrase of
+/// the refusal stands in parentheses, as in a trace (docs/COMMANDS.md); it reads as no ad.
+///
+/// ```
+/// let ad: classad::Ad = "[a=1;]".parse()?;
+/// assert_eq!(format!("{ad}"), "[a = 1]");
+/// # Ok::<(), classad::Refusal>(())
+/// ```
+impl fmt::Display for Ad {
+    fn fmt(&self, formatter: &mut fmt::Formatter) -> fmt::Result {
+        match self.print() {
+            Ok(text) => formatter.write_str(&text),
+            Err(refusal) => write!(formatter, "({})", refusal.phrase()),
+        }
     }
 }
 

@@ -4,10 +4,26 @@
 //! use classad::{Ad, Match};
 //!
 //! let job: Ad = "[PulseWidth = 25; Requirements = true; Rank = other.Free]".parse()?;
-//! let machine: Ad = "[Free = 3; Requirements = !(other.PulseWidth > 50)]".parse()?;
-//! let matching = Match::new(&job, &machine);
+//! let bench: Ad = "[Free = 3; Requirements = !(other.PulseWidth > 50)]".parse()?;
+//! let matching = Match::new(&job, &bench);
 //! assert!(matching.is_matched());
 //! assert_eq!(matching.ranks(), Some((3, 0)));
+//! # Ok::<(), classad::Refusal>(())
+//! ```
+//!
+//! Where two ads do not match, the Requirements say why, and a text that is refused says where:
+//!
+//! ```
+//! use classad::{Ad, Match, Side, Value};
+//!
+//! let job: Ad = "[Requirements = true]".parse()?;
+//! let bench: Ad = "[Requirements = !(other.PulseWidth > 50)]".parse()?;
+//! let matching = Match::new(&job, &bench);
+//! assert!(!matching.is_matched());
+//! assert_eq!(matching.requirements(Side::Second), Some(Value::Undefined));
+//!
+//! let refusal = "[Requirements = true".parse::<Ad>().unwrap_err();
+//! assert_eq!(refusal.to_string(), "refused 4 at 20 (line 1, column 21): text ends early");
 //! # Ok::<(), classad::Refusal>(())
 //! ```
 //!
@@ -24,6 +40,7 @@
 
 mod ad;
 pub mod bounds;
+mod definition;
 mod dependencies;
 mod matching;
 mod refusal;
@@ -31,8 +48,9 @@ mod refusal;
 pub mod sys;
 mod value;
 
-pub use ad::{Ad, Definition};
+pub use ad::Ad;
+pub use definition::{Definition, Reference};
 pub use dependencies::Dependencies;
 pub use matching::{Entry, Match, Side};
-pub use refusal::{Position, Refusal};
+pub use refusal::{BadToken, MisplacedToken, NumberTooLarge, Place, Refusal, TooLong, TooMany};
 pub use value::Value;

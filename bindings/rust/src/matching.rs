@@ -22,6 +22,26 @@ pub struct Entry {
     pub node: usize,
 }
 
+impl Side {
+    /// The other one.
+    pub fn other(self) -> Side {
+        match self {
+            Side::First => Side::Second,
+            Side::Second => Side::First,
+        }
+    }
+}
+
+/// `first` or `second`.
+impl fmt::Display for Side {
+    fn fmt(&self, formatter: &mut fmt::Formatter) -> fmt::Result {
+        formatter.write_str(match self {
+            Side::First => "first",
+            Side::Second => "second",
+        })
+    }
+}
+
 impl Entry {
     /// The entry of a number 1,024 · side + node.
     pub(crate) fn numbered(number: usize) -> Entry {
@@ -57,14 +77,14 @@ pub(crate) fn entries(room: &[u64]) -> Vec<Entry> {
 /// use classad::{Ad, Match, Side, Value};
 ///
 /// let job: Ad = "[Requirements = other.w > 50]".parse()?;
-/// let machine: Ad = "[w = 60; Requirements = true]".parse()?;
-/// let finished = Match::new(&job, &machine);
+/// let bench: Ad = "[w = 60; Requirements = true]".parse()?;
+/// let finished = Match::new(&job, &bench);
 /// assert!(finished.is_matched());
 /// assert_eq!(finished.ranks(), Some((0, 0)));
 /// assert_eq!(finished.steps(), 5);
 /// assert_eq!(finished.value(Side::Second, 0), Some(Value::Integer(60)));
 ///
-/// let short = Match::with_budget(&job, &machine, 4);
+/// let short = Match::with_budget(&job, &bench, 4);
 /// assert!(!short.is_matched());
 /// assert_eq!((short.verdict(), short.ranks()), (None, None));
 /// # Ok::<(), classad::Refusal>(())
@@ -76,11 +96,11 @@ pub(crate) fn entries(room: &[u64]) -> Vec<Entry> {
 /// use classad::{Ad, Match, Side, Value};
 ///
 /// let job: Ad = "[Requirements = true]".parse()?;
-/// let machine: Ad = "[Requirements = !(other.PulseWidth > 50)]".parse()?;
-/// let unmatched = Match::new(&job, &machine);
+/// let bench: Ad = "[Requirements = !(other.PulseWidth > 50)]".parse()?;
+/// let unmatched = Match::new(&job, &bench);
 /// assert_eq!(unmatched.verdict(), Some(false));
-/// let requirements = machine.definitions().next().unwrap().root;
-/// assert_eq!(unmatched.value(Side::Second, requirements), Some(Value::Undefined));
+/// assert_eq!(unmatched.requirements(Side::First), Some(Value::Boolean(true)));
+/// assert_eq!(unmatched.requirements(Side::Second), Some(Value::Undefined));
 /// # Ok::<(), classad::Refusal>(())
 /// ```
 #[derive(Clone)]
@@ -159,6 +179,34 @@ impl<'a> Match<'a> {
     /// more, otherwise 0. None where the match is not finished.
     pub fn ranks(&self) -> Option<(u32, u32)> {
         self.conclusion.map(|it| it.ranks)
+    }
+
+    /// The rank of one ad; none where the match is not finished.
+    pub fn rank(&self, side: Side) -> Option<u32> {
+        let (first, second) = self.ranks()?;
+        Some(match side {
+            Side::First => first,
+            Side::Second => second,
+        })
+    }
+
+    /// The value of an ad's Requirements. None where the ad has no such definition, and where
+    /// no step has given it a value, which a match that is finished has always done.
+    ///
+    /// ```
+    /// use classad::{Ad, Match, Side, Value};
+    ///
+    /// let job: Ad = "[requirements = other.Free]".parse()?;
+    /// let bench: Ad = "[Free = 3; Rank = 7]".parse()?;
+    /// let unmatched = Match::new(&job, &bench);
+    /// assert_eq!(unmatched.requirements(Side::First), Some(Value::Integer(3)));
+    /// assert_eq!(unmatched.requirements(Side::Second), None);
+    /// assert_eq!(unmatched.rank(Side::Second), Some(7));
+    /// # Ok::<(), classad::Refusal>(())
+    /// ```
+    pub fn requirements(&self, side: Side) -> Option<Value<'a>> {
+        let definition = self.ad(side).definition("Requirements")?;
+        self.value(side, definition.root)
     }
 
     /// The steps done, each of which gave one value.

@@ -6,10 +6,12 @@ use std::ffi::{OsStr, OsString};
 /// What the command line asks for.
 pub enum Command {
     Help,
+    Version,
     Check(Vec<OsString>),
     Print(OsString),
     Match(Pair),
     Trace(Pair),
+    Graph([OsString; 2]),
 }
 
 /// The two files of a match and its budget.
@@ -22,11 +24,13 @@ pub struct Pair {
 pub fn command(arguments: &[OsString]) -> Option<Command> {
     let (name, rest) = arguments.split_first()?;
     match (name.as_encoded_bytes(), rest) {
-        (b"help", []) => Some(Command::Help),
+        (b"help" | b"--help" | b"-h", []) => Some(Command::Help),
+        (b"--version", []) => Some(Command::Version),
         (b"check", [_, ..]) if one_input(rest) => Some(Command::Check(rest.to_vec())),
         (b"print", [file]) => Some(Command::Print(file.clone())),
         (b"match", _) => pair(rest).map(Command::Match),
         (b"trace", _) => pair(rest).map(Command::Trace),
+        (b"graph", _) => two_files(rest).map(Command::Graph),
         _ => None,
     }
 }
@@ -43,18 +47,16 @@ fn one_input(files: &[OsString]) -> bool {
 
 fn pair(arguments: &[OsString]) -> Option<Pair> {
     let (files, budget) = match arguments {
-        [_, _] => (arguments, DEFAULT_BUDGET),
-        [files @ .., budget] => (files, budget_of(budget.as_encoded_bytes())?),
-        [] => return None,
+        [files @ .., budget] if files.len() == 2 => (files, budget_of(budget.as_encoded_bytes())?),
+        _ => (arguments, DEFAULT_BUDGET),
     };
-    let [first, second] = files else {
-        return None;
-    };
-    let pair = Pair {
-        files: [first.clone(), second.clone()],
-        budget,
-    };
-    Some(pair).filter(|_| one_input(files))
+    let files = two_files(files)?;
+    Some(Pair { files, budget })
+}
+
+fn two_files(arguments: &[OsString]) -> Option<[OsString; 2]> {
+    let files: &[OsString; 2] = arguments.try_into().ok()?;
+    Some(files.clone()).filter(|files| one_input(files))
 }
 
 /// Digits alone, as many as one likes, for a number from 0 to 65,535.

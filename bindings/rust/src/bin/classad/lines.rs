@@ -1,6 +1,6 @@
 //! The lines of the command. docs/COMMANDS.md gives each byte of them; file names are bytes.
 
-use classad::{Ad, Entry, Match, Refusal, Side};
+use classad::{Ad, Entry, Match, Place, Refusal, Side, Value};
 use std::ffi::OsStr;
 use std::io;
 
@@ -9,10 +9,21 @@ usage: classad check FILE..
        classad print FILE
        classad match FIRST SECOND [BUDGET]
        classad trace FIRST SECOND [BUDGET]
+       classad graph FIRST SECOND
        classad help
+       classad --version
 FILE, FIRST and SECOND may be - for standard input, at most once.
 BUDGET is digits, 0 to 65535; without it the budget is 65535.
 ";
+
+/// The program's version, and the kit that its library was proved and built with.
+pub const VERSION: &str = concat!(
+    "classad ",
+    env!("CARGO_PKG_VERSION"),
+    "\nkit ",
+    env!("CLASSAD_KIT"),
+    "\n"
+);
 
 /// `FILE: accepted, D definitions, N nodes`
 pub fn accepted(file: &OsStr, ad: &Ad) -> Vec<u8> {
@@ -26,18 +37,12 @@ pub fn accepted(file: &OsStr, ad: &Ad) -> Vec<u8> {
 /// One line where the place is 0 by rule; otherwise three, the last of which has a caret
 /// below the place.
 pub fn refused(file: &OsStr, text: &[u8], refusal: &Refusal) -> Vec<u8> {
-    let (number, place, phrase) = (refusal.number(), refusal.place(), refusal.phrase());
-    if !refusal.has_place() {
-        return about(file, &format!("refused {number} at {place}: {phrase}\n"));
+    let mut lines = format!("{refusal}\n");
+    if let Some(Place { byte, column, .. }) = refusal.place() {
+        let shown = shown_line(&text[byte - (column - 1)..]);
+        let margin = " ".repeat(column - 1);
+        lines += &format!("{shown}\n{margin}^\n");
     }
-    let position = refusal.position(text);
-    let (line, column) = (position.line, position.column);
-    let shown = shown_line(&text[place - (column - 1)..]);
-    let margin = " ".repeat(column - 1);
-    let lines = format!(
-        "refused {number} at {place} (line {line}, column {column}): {phrase}\n\
-         {shown}\n{margin}^\n"
-    );
     about(file, &lines)
 }
 
@@ -62,26 +67,33 @@ pub fn fault(file: &OsStr, fault: &io::Error) -> Vec<u8> {
     line
 }
 
-/// The verdict, the ranks and the steps, or that the match is not done.
+/// The verdict, each Requirements that is not true, the ranks and the steps; or that the match
+/// is not done.
 pub fn outcome(it: &Match) -> String {
     let steps = format!("steps {} of {}\n", it.steps(), it.list().len());
     let (Some(matched), Some((first, second))) = (it.verdict(), it.ranks()) else {
         return format!("not done\n{steps}");
     };
     let word = if matched { "matched" } else { "unmatched" };
-    format!("{word}\nfirst rank {first}\nsecond rank {second}\n{steps}")
+    let untrue = untrue(it, Side::First) + &untrue(it, Side::Second);
+    format!("{word}\n{untrue}first rank {first}\nsecond rank {second}\n{steps}")
+}
+
+/// That the Requirements of an ad are not true; nothing where they are.
+fn untrue(it: &Match, side: Side) -> String {
+    match it.requirements(side) {
+        Some(Value::Boolean(true)) => String::new(),
+        Some(value) => format!("{side} Requirements is {value}\n"),
+        None => format!("{side} ad has no Requirements\n"),
+    }
 }
 
 /// `K SIDE NAME: EXPRESSION -> VALUE`, for entry K of the list.
 pub fn traced(it: &Match, number: usize, entry: Entry) -> String {
     let Entry { side, node } = entry;
     let ad = it.ad(side);
-    let side_word = match side {
-        Side::First => "first",
-        Side::Second => "second",
-    };
     let definition = ad.definition_of(node).expect("an entry has a definition");
-    let name = String::from_utf8_lossy(definition.name);
+    let name = definition.name;
     let expression = match ad.expression(node) {
         Ok(text) => text.expect("an entry has an expression"),
         Err(refusal) => format!("({})", refusal.phrase()),
@@ -90,7 +102,7 @@ pub fn traced(it: &Match, number: usize, entry: Entry) -> String {
         Some(value) => value.to_string(),
         None => "blank".to_string(),
     };
-    format!("{number} {side_word} {name}: {expression} -> {value}\n")
+    format!("{number} {side} {name}: {expression} -> {value}\n")
 }
 
 /// `FILE: `, then what is said of it.

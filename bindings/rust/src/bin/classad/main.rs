@@ -1,6 +1,7 @@
 //! The command `classad`. docs/COMMANDS.md gives its output and its exit status.
 
 mod arguments;
+mod graph;
 mod input;
 mod lines;
 
@@ -14,7 +15,7 @@ use std::process::ExitCode;
 /// The exit status; of several the largest counts.
 #[derive(Clone, Copy, PartialEq, Eq, PartialOrd, Ord)]
 enum Status {
-    /// Accepted, printed or matched.
+    /// Accepted, printed, matched or drawn; help and version.
     Good = 0,
     /// Refused, unmatched or not done.
     Bad = 1,
@@ -61,15 +62,19 @@ fn complain(lines: &[u8]) {
 
 fn run(command: &Command, output: &mut impl Write) -> Result<Status, Stop> {
     match command {
-        Command::Help => {
-            output.write_all(lines::USAGE.as_bytes())?;
-            Ok(Status::Good)
-        }
+        Command::Help => say(lines::USAGE, output),
+        Command::Version => say(lines::VERSION, output),
         Command::Check(files) => check(files, output),
         Command::Print(file) => print(file, output),
         Command::Match(pair) => match_pair(pair, false, output),
         Command::Trace(pair) => match_pair(pair, true, output),
+        Command::Graph(files) => draw(files, output),
     }
+}
+
+fn say(text: &str, output: &mut impl Write) -> Result<Status, Stop> {
+    output.write_all(text.as_bytes())?;
+    Ok(Status::Good)
 }
 
 /// Says why a command went no further, and gives its status.
@@ -131,6 +136,12 @@ fn trace(matching: &Match, output: &mut impl Write) -> io::Result<()> {
     entries.try_for_each(|(number, &entry)| {
         output.write_all(lines::traced(matching, number, entry).as_bytes())
     })
+}
+
+fn draw(files: &[OsString; 2], output: &mut impl Write) -> Result<Status, Stop> {
+    let [first, second] = ads_of(files)?;
+    output.write_all(graph::graph([&first, &second]).as_bytes())?;
+    Ok(Status::Good)
 }
 
 fn ad_of(file: &OsStr) -> Result<Ad, Stop> {
