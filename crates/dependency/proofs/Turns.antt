@@ -11,9 +11,10 @@ use lib.Dec.{eqb, ltb, leb}
 use borrow.Author.Tests.{leb-true, leb-false}
 use Rattle.graph.specs.Laws.Members.{ltb-yes}
 use Rattle.graph.specs.Graph.{Graph, Sound}
-use Rattle.graph.specs.Transition.{State, searches, led, recordedAs, marked, searchedTo, resolvedTo, transition, transitions, first}
+use Rattle.graph.specs.Transition.{State, searches, led, named, marked, searchedTo, resolvedTo, transition, transitions, first}
 use Rattle.graph.specs.Laws.Traversal.{Ends, traverse, within-square}
-use Rattle.graph.specs.Laws.Progress.{PlaceOK, Valid, valid-transitions, valid-first, transitions-suc, total, before-end, over-at, room-at, taken, pending, Awake, awake-next}
+use Rattle.graph.specs.Laws.Progress.{transitions-suc, total, before-end, over-at, room-at, taken, pending, Awake, awake-next}
+use Rattle.graph.specs.Laws.Range.{InRange, Ranged, slotted, ranged-transitions, ranged-first}
 use Rattle.graph.specs.Laws.Numbers.{PlaceSmall, small-first}
 use Rattle.graph.specs.Laws.Transitions.{state-eq}
 use Rattle.graph.specs.declared.Place.{Place}
@@ -28,9 +29,9 @@ use Rattle.dependency.proofs.Steps.{nodes-few, size-is}
 
 -- a mark within the slots is what it records
 recorded-is :
-    (H : Graph) (t : ℕ) (l : List ℕ) → ((y : ℕ) → t ≡ suc y → y < H .slots) → recordedAs H t ≡ l → t
+    (H : Graph) (t : ℕ) (l : List ℕ) → ((y : ℕ) → t ≡ suc y → y < H .slots) → named H t ≡ l → t
     ≡ marked l
-unfolding recordedAs
+unfolding named
 recorded-is H zero l h e = ap marked e
 recorded-is H (suc y) l h e = ap marked (rw (ltb-yes (h y refl)) at e)
 
@@ -104,12 +105,12 @@ module _ (G : Graph) (S : Sound G) where
     unfolding view
     place-is = ap (λ (s : State). s .place) (t .is)
 
-    valid : Valid G S (view pl len ta ma fl ls)
-    valid = subst (λ (s : State). Valid G S s) (sym (t .is)) (valid-transitions G S count (first G) (valid-first G S))
+    ranged : Ranged G (slotted S) (view pl len ta ma fl ls)
+    ranged = subst (λ (s : State). Ranged G (slotted S) s) (sym (t .is)) (ranged-transitions G (slotted S) count (first G) (ranged-first G (slotted S)))
 
-    pub place-ok : PlaceOK G S pl
+    pub in-range : InRange G pl
     unfolding view
-    place-ok = valid .place-ok
+    in-range = ranged .place-in
 
     pub place-small : PlaceSmall count pl
     place-small = subst (PlaceSmall count) (sym place-is) (small-first G count .place-small)
@@ -160,7 +161,7 @@ module _ (G : Graph) (S : Sound G) where
             bits = flagged-bits pl fl fl′ (t .bits) fe;
           }
 
-      ended-place : (u : Place) → PlaceOK G S u → endedAt u n ≡ true → u ≡ Between (searches G)
+      ended-place : (u : Place) → InRange G u → endedAt u n ≡ true → u ≡ Between (searches G)
       ended-place (Resolving i) o h = absurd (never h)
       ended-place (Starting k) o h = absurd (never h)
       ended-place (Searching k x top high low) o h = absurd (never h)
@@ -186,7 +187,7 @@ module _ (G : Graph) (S : Sound G) where
       pub going-end : endedAt pl n ≡ true → Traversed G count len ta fl ls
       unfolding view led
       going-end h =
-          let pe : pl ≡ Between (searches G) = ended-place pl place-ok h in
+          let pe : pl ≡ Between (searches G) = ended-place pl in-range h in
           let en : Ends G S (view pl len ta ma fl ls) = subst (λ (s : State). Ends G S s) (sym (t .is)) (over-at G S count (t .most) (sym place-is ∙ pe)) in
           let li : count ≤ 16 * G .size = let a = t .most in let z = (traverse G S) .small in omega arith in
           record {
@@ -195,7 +196,7 @@ module _ (G : Graph) (S : Sound G) where
             exact = t .awake;
             linear = li;
             small = within-square G S count li;
-            resolved = λ x r. recorded-is G (getD ta x 0) (G .links x) (λ y e. S .in-slots y (valid .target-ok x y e)) (sym (rw r refl) ∙ en .resolved x);
+            resolved = λ x r. recorded-is G (getD ta x 0) (G .links x) (ranged .targets-in x) (sym (rw r refl) ∙ en .resolved x);
             circular = en .flagged;
             bits = t .bits;
             order = en .order;
@@ -256,7 +257,7 @@ module _ {v b w c roots : List ℕ} {nv dv nw dw n count : ℕ} {pl : Place} {le
   pub turn-count : r ≡ false → count < 32768
   turn-count h = let a = turn-small h in let s = size-small in omega arith
 
-  fits-at : (u : Place) → pl ≡ u → r ≡ false → PlaceOK (pairGraph v b w c) S u → PlaceSmall count u → endedAt u n ≡ false → PlaceFits v w (length roots) len ls u
+  fits-at : (u : Place) → pl ≡ u → r ≡ false → InRange (pairGraph v b w c) u → PlaceSmall count u → endedAt u n ≡ false → PlaceFits v w (length roots) len ls u
   unfolding pairGraph
   fits-at (Resolving i) q h o s k = o
   fits-at (Starting i) q h o s k = o
@@ -270,7 +271,7 @@ module _ {v b w c roots : List ℕ} {nv dv nw dw n count : ℕ} {pl : Place} {le
       (o .0, omega arith, room-in (pairGraph v b w c) S (t .going) i x q size-small)
 
   pub turn-fits : r ≡ false → PlaceFits v w (length roots) len ls pl
-  turn-fits h = fits-at pl refl h (place-ok (pairGraph v b w c) S (t .going)) (place-small (pairGraph v b w c) S (t .going)) (sym e ∙ h)
+  turn-fits h = fits-at pl refl h (in-range (pairGraph v b w c) S (t .going)) (place-small (pairGraph v b w c) S (t .going)) (sym e ∙ h)
 
   pub turn-next : {pl′ : Place} {len′ : ℕ} {ta′ ma′ fl′ ls′ : List ℕ} → r ≡ false →
       (view pl′ len′ ta′ ma′ fl′ ls′ ≡ transition (pairGraph v b w c) (view pl len ta ma fl ls)) × (Grows len len′ ls ls′ × FlaggedFrom pl fl fl′) →
