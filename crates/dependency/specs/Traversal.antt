@@ -48,8 +48,9 @@ pub record Traversed (G : Graph) (count len : ℕ) (target flag list : List ℕ)
   -- the whole list, each entry one more than its node, then zeros
   pub written : list ≡ map suc order ++ replicate (length list - length order) 0
 
--- What one transition of a pair asks of its place, of n list searches in all, and that the list is not full where an entry may be
--- written. It asks nothing of what the marks hold: 'each with a contract of its own over any marks, right or wrong'
+-- What one transition of a pair asks of its place, of n list searches in all: that its nodes are slots, whether a node stands there
+-- or not, and that the list is not full where an entry may be written. It asks nothing of what the marks hold: 'each with a contract
+-- of its own over any marks, right or wrong'
 abbrev pub PlaceFits : (v w : List ℕ) → (n len : ℕ) → (list : List ℕ) → Place → Type 0
 PlaceFits v w n len list (Resolving i) = i < nodeCount v + nodeCount w
 PlaceFits v w n len list (Starting k) = k < nodeCount v + nodeCount w

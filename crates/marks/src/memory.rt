@@ -1,4 +1,4 @@
-// The slice of marks: six numbers a node, of 16 bits each, since no mark is above 16 times 2,048.
+// The slice of marks: six numbers a node, of 16 bits each, since from clear marks no height is above 2,049.
 ghost use mathlib.Core.Path.{_≡_};
 ghost use mathlib.Core.List.{[], _∷_};
 ghost use Prim.Native.Nat.{_+_, _*_, _≤_, _<_};

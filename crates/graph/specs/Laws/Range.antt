@@ -1,6 +1,6 @@
 -- From a place whose numbers are in range a transition leads to one again, whatever the marks hold: a mark that is wrong leads to a
 -- place that still has a next transition, or to the end. Assumes nothing.
-use mathlib.Core.Path.{_≡_, refl, sym, ap, _∙_, subst}
+use mathlib.Core.Path.{_≡_, refl, sym, ap, _∙_}
 use mathlib.Core.Logic.{_⊎_, inl, inr}
 use mathlib.Core.Bool.{Bool, true, false, cond}
 use mathlib.Core.List.{List, [], _∷_}
@@ -8,12 +8,12 @@ use Prim.Native.Nat.{ℕ, zero, suc, _-_, _≤_, _<_, min}
 use native.Mathlib.Decide.{ℕ-discrete}
 use native.Mathlib.Omega.{arith}
 use lib.Dec.{eqb, ltb}
-use Rattle.graph.specs.Members.{_∈_, here, Each, put}
+use Rattle.graph.specs.Members.{_∈_, here, Each}
 use Rattle.graph.specs.Laws.Members.{mem-nil, mem-cons, mem-drop, at-mem, put-same, put-other, ltb-true}
 use Rattle.graph.specs.Graph.{Graph, Sound}
 use Rattle.graph.specs.declared.Place.{Place}
 use Rattle.graph.specs.declared.Place.the-variants.{Resolving, Starting, Searching, Closing, Between, Inside}
-use Rattle.graph.specs.Transition.{State, start, searches, named, led, marked, needed, searchedTo, resolvedTo, backOpen, backClosed, nextOpen, back, moved, resolve, discover, pass, passOpen, close, enter, leave, seek, advance, shut, begin, follow, transitionAt, transition, transitions, first}
+use Rattle.graph.specs.Transition.{State, start, searches, named, led, marked, needed, searchedTo, resolvedTo, backOpen, backClosed, nextOpen, back, moved, resolve, discover, pass, passOpen, close, enter, seek, advance, shut, begin, follow, transitionAt, transition, transitions, first}
 
 -- the nodes, links and roots of a graph are slots
 pub record Slotted (G : Graph) : Type 0 where
@@ -60,7 +60,7 @@ module _ (G : Graph) (w : Slotted G) where
       go true e k = only (ltb-true e) (mem-cons k)
       go false e k = absurd (mem-nil k)
 
-  led-in : (target : ℕ → ℕ) (x : ℕ) → Slots (led G target x)
+  pub led-in : (target : ℕ → ℕ) (x : ℕ) → Slots (led G target x)
   unfolding led
   led-in target x y n = go (G .ref x) n
     where

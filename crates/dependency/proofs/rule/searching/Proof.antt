@@ -1,4 +1,3 @@
-use denote.Ref.{now}
 use mathlib.Core.Path.{refl}
 use mathlib.Core.Logic.{inl}
 use native.Mathlib.Omega.{arith}
