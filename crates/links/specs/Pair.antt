@@ -88,12 +88,13 @@ definitionAt n name [] = []
 definitionAt n name (d ∷ ds) =
     cond (sameName (d .name) name) ((n + size (d .expression) - 1) ∷ []) (definitionAt (n + size (d .expression)) name ds)
 
--- What a well-formed stored ad keeps to, of its room, operands and definitions: for 'a stored ad is well formed exactly if ..'.
+-- What a well-formed stored ad keeps to, of its room, nodes and definitions: for 'a stored ad is well formed exactly if ..'.
 pub record Formed (w : List ℕ) : Type 0 where
   pub words-room : adWords ≤ length w
   pub operands-below : (i : ℕ) → i < nodeCount w → Each (λ y. y < i) (operands w i)
+  -- a slot that no node has is clear, so that it leads nowhere
+  pub unused-clear : (i : ℕ) → nodeCount w ≤ i → i < maxNodes → kindAt w i ≡ 0
   pub roots-in : (j : ℕ) → j < definitionCount w → rootAt w j < nodeCount w
-  pub definitions-few : definitionCount w ≤ nodeCount w
 
 -- a well-formed ad, and its counts
 pub record Measured (w : List ℕ) (n d : ℕ) : Type 0 where
