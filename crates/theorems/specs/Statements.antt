@@ -9,7 +9,7 @@ use mathlib.Core.Logic.{_↔_, _⊎_, _≢_}
 use mathlib.Core.Bool.{Bool, true, false, cond, _&&_, _||_}
 use mathlib.Core.List.{List, [], _∷_, _++_, map, List·Memᴰ}
 use lib.ListN.{length, getD, take, drop, replicate}
-use lib.Dec.{T}
+use lib.Dec.{T, ltb}
 use lib.IntN.{pos, natAbs}
 use lib.Ieee.{Float, Format, binary64, round, fits}
 use Rattle.text.specs.Bytes.{bytes as ascii}
@@ -353,6 +353,13 @@ pub match-refuses : {words₁ bytes₁ words₂ bytes₂ : List ℕ} {budget : �
     (place ≡ 0) × (table′ ≡ table) × (list′ ≡ list)
 match-refuses = calls.match-refuses
 
+-- Two finished matches of the same memory answer the same, whatever the budgets and whatever is lent for table and list.
+pub finished-is-one : {words₁ bytes₁ words₂ bytes₂ : List ℕ} {budget budget′ : ℕ} {table list table′ list′ table₂ list₂ table₂′ list₂′ : List ℕ} {verdict verdict′ : Bool} {rank₁ rank₂ steps count rank₁′ rank₂′ steps′ count′ : ℕ} →
+    Matched words₁ bytes₁ words₂ bytes₂ budget table list table′ list′ (outcome.Finished verdict rank₁ rank₂ steps count) →
+    Matched words₁ bytes₁ words₂ bytes₂ budget′ table₂ list₂ table₂′ list₂′ (outcome.Finished verdict′ rank₁′ rank₂′ steps′ count′) →
+    outcome.Finished verdict rank₁ rank₂ steps count ≡ outcome.Finished verdict′ rank₁′ rank₂′ steps′ count′
+finished-is-one {count = count} {count′ = count′} m m′ = exchanging.matched-finished m m′ (count, refl) (count′, refl)
+
 -- With the two ads exchanged a finished match keeps its verdict, the ranks change places, and the steps are as many: in any memory, and
 -- with any two budgets that finish.
 pub exchange : {words₁ bytes₁ words₂ bytes₂ : List ℕ} {budget budget′ : ℕ} {table list table′ list′ table₂ list₂ table₂′ list₂′ : List ℕ} {verdict verdict′ : Bool} {rank₁ rank₂ steps count rank₁′ rank₂′ steps′ count′ : ℕ} →
@@ -415,6 +422,17 @@ module _ {text₁ text₂ oldWords₁ oldBytes₁ oldWords₂ oldBytes₂ words�
   pub texts-exchange : {table₂ list₂ table₂′ list₂′ : List ℕ} {result′ : Outcome} → 4096 ≤ length table₂ → 2048 ≤ length list₂ →
       Matched words₂ bytes₂ words₁ bytes₁ budget table₂ list₂ table₂′ list₂′ result′ → Exchanged result result′
   texts-exchange tableRoom₂ listRoom₂ match₂ = exchanging.accepted-exchange call₁ call₂ tableRoom listRoom tableRoom₂ listRoom₂ match match₂
+
+-- Verdict, ranks, steps and the count of moves are functions of the two texts: the budget decides only whether the match is finished, and
+-- the memory decides nothing. '.. answers verdict, both ranks and steps, otherwise the steps done.'
+pub texts-answer : {text₁ text₂ : List ℕ} {tree₁ tree₂ : Ad} → read text₁ ≡ accepted tree₁ → read text₂ ≡ accepted tree₂ → (verdict : Bool) × (rank₁ rank₂ steps count : ℕ) ×
+    ((oldWords₁ oldBytes₁ oldWords₂ oldBytes₂ words₁ bytes₁ words₂ bytes₂ : List ℕ) (definitions₁ nodes₁ definitions₂ nodes₂ budget : ℕ) (table list table′ list′ : List ℕ) (result : Outcome) →
+    Answered text₁ oldWords₁ oldBytes₁ words₁ bytes₁ (reading.Accepted definitions₁ nodes₁) → Answered text₂ oldWords₂ oldBytes₂ words₂ bytes₂ (reading.Accepted definitions₂ nodes₂) →
+    4096 ≤ length table → 2048 ≤ length list → Matched words₁ bytes₁ words₂ bytes₂ budget table list table′ list′ result →
+    result ≡ cond (ltb budget steps) (outcome.Unfinished budget count) (outcome.Finished verdict rank₁ rank₂ steps count))
+texts-answer reads₁ reads₂ =
+    let x = texts.texts-answer reads₁ reads₂ in
+    (x .verdict, x .first-rank, x .second-rank, x .steps, x .count, λ _ _ _ _ _ _ _ _ _ _ _ _ _ _ _ _ _ _ call₁ call₂ tableRoom listRoom match. x .only (texts.texts-match call₁ call₂ tableRoom listRoom match))
 
 -- Undefined is no match: a bench that says `!(other.PulseWidth > 50)` does not take a job that came without PulseWidth.
 pub missing-pulse-width : {oldWords₁ oldBytes₁ oldWords₂ oldBytes₂ words₁ bytes₁ words₂ bytes₂ : List ℕ} {answer₁ answer₂ : Answer} {budget : ℕ} {table list table′ list′ : List ℕ} {result : Outcome} →
