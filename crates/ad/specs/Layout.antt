@@ -1,9 +1,10 @@
 -- The layout of a stored ad: what the words and bytes of its memory hold (docs/LAYOUT.md). 'Layouts are the team's, written in
 -- docs/; equal trees have equal content.' Assumes nothing.
 use Prim.Native.Nat.{ℕ, zero, suc, _+_, _-_, _*_, _≤_, _<_}
-use mathlib.Core.Bool.{Bool, true, false, cond}
+use mathlib.Core.Bool.{Bool, true, false, cond, _||_}
 use mathlib.Core.List.{List, [], _∷_, _++_}
 use lib.ListN.{length, replicate}
+use lib.Dec.{ltb}
 use Rattle.syntax.specs.Bounds.{maxNodes, maxDefinitions, textBytes}
 use Rattle.syntax.specs.Tree.{Literal, undefined, error, boolean, integer, real, string, Scope, own, other, Expr, literal, reference, unary, binary, conditional, Definition, Ad, size}
 use Rattle.syntax.specs.declared.Binary.{Binary}
@@ -146,3 +147,7 @@ storedWords a = padded nodeWords (adNodes 0 0 a) ++ padded (adWords - nodeWords)
 -- what its bytes hold: 'exactly this content, zeros included'
 unfoldable pub storedBytes : Ad → List ℕ
 storedBytes a = padded adBytesRoom (adBytes a)
+
+-- 'lent room smaller than above', of an ad
+abbrev pub smallAd : List ℕ → List ℕ → Bool
+smallAd w b = ltb (length w) adWords || ltb (length b) adBytesRoom

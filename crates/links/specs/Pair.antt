@@ -18,29 +18,26 @@ use Rattle.graph.specs.Graph.{Graph}
 use Rattle.graph.specs.Transition.{marked}
 use Rattle.ad.specs.Stored.{kindAt, nodeCount, definitionCount, offsetAt, lengthAt, bytesAt, isOwn, isOther, isReference, operands, nameAt, rootAt, find}
 
--- A link as it is said from its own side: whether it goes to the other ad, and to which node there.
-abbrev pub Link : Type 0
-Link = Bool × ℕ
-
 -- the number of node y of the first side, or of the second: 'The two sides are distinct even if the same ad is lent twice.'
 abbrev pub numbered : Bool → ℕ → ℕ
 numbered second y = cond second (maxNodes + y) y
 
--- the number of the node to which a link goes, said from the first side, or from the second
-abbrev pub linked : Bool → Link → ℕ
+-- the number of the node that a link goes to, from the second side or the first. A link is said from its own side: whether it goes to
+-- the other ad, and to which node there
+abbrev pub linked : Bool → (Bool × ℕ) → ℕ
 linked second l = numbered (cond (l .0) (not second) second) (l .1)
 
 -- a link in its own ad, to node y
-abbrev pub inside : ℕ → Link
+abbrev pub inside : ℕ → Bool × ℕ
 inside y = (false, y)
 
 -- a link to the other ad, to node y there
-abbrev pub across : ℕ → Link
+abbrev pub across : ℕ → Bool × ℕ
 across y = (true, y)
 
 -- what node i of an ad leads to, w′ and b′ being the other ad: '`name` finds its definition in its own ad, `other.name` in the
 -- other'; 'An operator leads to all its operands .. A reference leads to its definition.'
-unfoldable pub linksFrom : List ℕ → List ℕ → List ℕ → List ℕ → ℕ → List Link
+unfoldable pub linksFrom : List ℕ → List ℕ → List ℕ → List ℕ → ℕ → List (Bool × ℕ)
 linksFrom w b w′ b′ i =
     cond (ltb i (nodeCount w))
     (cond (isOwn (kindAt w i))

@@ -17,7 +17,7 @@ use Rattle.syntax.specs.Grammar.{IsAd, Within, Whole}
 use Rattle.syntax.specs.Reader as R
 use Rattle.syntax.specs.Print.{printedAd}
 use Rattle.syntax.specs.Laws.Accepts.{accepts}
-use Rattle.ad.specs.Layout.{adWords, adBytesRoom, storedWords, storedBytes}
+use Rattle.ad.specs.Layout.{smallAd, adWords, adBytesRoom, storedWords, storedBytes}
 use Rattle.ad.specs.Stored.{nodeCount}
 use Rattle.grammar.specs.Refusal as refusal
 use Rattle.grammar.specs.Laws.Refusals.{read-refusal}
@@ -26,7 +26,7 @@ use Rattle.well_formed.specs.declared.Checked.the-variants.{WellFormed}
 use Rattle.printer.specs.Prints.{Roomy}
 use Rattle.reader.specs.declared.Answer.{Answer}
 use Rattle.reader.specs.declared.Answer.the-variants.{Accepted, Refused}
-use Rattle.reader.specs.Content.{answerOf, small, answer, wordsAfter, bytesAfter, Answered}
+use Rattle.reader.specs.Content.{answerOf, answer, wordsAfter, bytesAfter, Answered}
 use Rattle.graph.specs.Members.{_∈_, Distinct}
 use Rattle.graph.specs.Graph.{Graph, IsList}
 use Rattle.graph.specs.Laws.Members.{put-same, put-other}
@@ -81,7 +81,7 @@ module _ {s w b w′ b′ : List ℕ} {r : Answer} (x : Answered s w b w′ b′
   pub answered-refusal : Roomy w b → (k p : ℕ) → (r ≡ Refused k p) ↔ refusal.Refused s k p
   answered-refusal h k p = ((λ e. read-refusal s k p .0 (denied-back k p (R.read s) (sym (answer-is-read h) ∙ e))), λ d. answer-is-read h ∙ ap answerOf (read-refusal s k p .1 d))
 
-  is-small : ¬ (Roomy w b) → small w b ≡ true
+  is-small : ¬ (Roomy w b) → smallAd w b ≡ true
   is-small n = go (ltb (length w) adWords) refl (ltb (length b) adBytesRoom) refl
     where
       go : (t : Bool) → ltb (length w) adWords ≡ t → (u : Bool) → ltb (length b) adBytesRoom ≡ u → (t || u) ≡ true
