@@ -21,7 +21,7 @@ unaryKind Plus = 10
 unaryKind Minus = 11
 
 -- 'A node is .. an operator': the kinds of the binary operators, from `||` to `* / %`, 'loosest first'; 12 is `? :`. The numbers
--- are those of docs/LAYOUT.md: 'Layouts are the team's, written in docs/'
+-- are those of docs/LAYOUT.md
 abbrev pub binaryKind : Binary → ℕ
 binaryKind Or = 13
 binaryKind And = 14
@@ -44,12 +44,12 @@ unfoldable pub scopeKind : Scope → ℕ
 scopeKind own = 7
 scopeKind other = 8
 
--- a node as it is stored: its kind, and up to three operands or data (docs/LAYOUT.md: 'Layouts are the team's, written in docs/')
+-- a node as it is stored: its kind, and up to three operands or data (docs/LAYOUT.md)
 abbrev pub node : ℕ → ℕ → ℕ → ℕ → List ℕ
 node k a b c = k ∷ a ∷ b ∷ c ∷ []
 
--- 'A node is a literal ..'; a real literal's 'keeps its digits read as one whole number and the count after the point'. The
--- string, if it is one, is stored from byte o on (docs/LAYOUT.md: 'Layouts are the team's, written in docs/')
+-- 'A node is a literal ..'; a real literal's 'keeps its digits read as one whole number and the count after the point'. The string,
+-- if it is one, is stored from byte o on (docs/LAYOUT.md)
 unfoldable pub literalNode : ℕ → Literal → List ℕ
 literalNode o undefined = node 1 0 0 0
 literalNode o error = node 2 0 0 0
@@ -77,8 +77,8 @@ exprBytes (unary u a) = exprBytes a
 exprBytes (binary j a b) = exprBytes a ++ exprBytes b
 exprBytes (conditional a b c) = exprBytes a ++ (exprBytes b ++ exprBytes c)
 
--- the bytes of an ad: each definition's name, then those of its expression, for '16,384 bytes of names and strings'; their order
--- is that of docs/LAYOUT.md: 'Layouts are the team's, written in docs/'
+-- the bytes of an ad: each definition's name, then those of its expression, for '16,384 bytes of names and strings'; their order is
+-- that of docs/LAYOUT.md
 unfoldable pub adBytes : Ad → List ℕ
 adBytes [] = []
 adBytes (d ∷ ds) = d .name ++ (exprBytes (d .expression) ++ adBytes ds)

@@ -12,7 +12,7 @@ use Rattle.ad.specs.Stored.{nodeCount}
 use Rattle.links.specs.Pair.{pairGraph, Measured, Stands}
 use Rattle.links.specs.Laws.Soundness.{pair-sound}
 use Rattle.graph.specs.Members.{numbers, raised}
-use Rattle.marks.specs.Memory.{markAt, marksRoom, AtNode, AtSeek, AtLoopLink, AtLoopLast, AtClose, AtStart, AtLink, AtLast, Grows}
+use Rattle.marks.specs.Inner.Memory.{markAt, marksRoom, AtNode, AtSeek, AtLoopLink, AtLoopLast, AtClose, AtStart, AtLink, AtLast, Grows}
 use Rattle.links.specs.Laws.Numbering.{pair-size, stands-small, nodes-fit, needed-in, needed-next}
 
 pub kept-grows : {len len′ : ℕ} (ls : List ℕ) → len′ ≡ len → Grows len len′ ls ls

@@ -22,7 +22,7 @@ use Rattle.graph.specs.declared.Place.the-variants.{Resolving, Starting, Search
 use Rattle.links.specs.Pair.{pairGraph, Measured}
 use Rattle.links.specs.Laws.Soundness.{pair-sound}
 use Rattle.links.specs.Laws.Numbering.{pair-size}
-use Rattle.marks.specs.Memory.{view, marksRoom, markWords, Clear, Roomy, Grows}
+use Rattle.marks.specs.Inner.Memory.{view, marksRoom, markWords, Clear, Roomy, Grows}
 use Rattle.dependency.specs.Traversal.{endedAt, PlaceFits, FlaggedFrom, Ready, Traversed}
 use Rattle.dependency.specs.Laws.Use.{clear-zeros}
 use Rattle.dependency.specs.Laws.Next.{slots-fit, place-fits}

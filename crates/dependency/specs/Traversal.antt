@@ -12,7 +12,7 @@ use Rattle.graph.specs.declared.Place.{Place}
 use Rattle.graph.specs.declared.Place.the-variants.{Resolving, Starting, Searching, Closing, Between, Inside}
 use Rattle.ad.specs.Stored.{nodeCount}
 use Rattle.links.specs.Pair.{Formed}
-use Rattle.marks.specs.Memory.{view, marksRoom, Clear, Flagged}
+use Rattle.marks.specs.Inner.Memory.{view, marksRoom, Clear, Flagged}
 
 -- 'clear marks and an empty list', for two well-formed ads; the other marks are the traversal's own
 pub record Ready (v w target flag list : List ℕ) : Type 0 where

@@ -10,7 +10,7 @@ use lib.Dec.{ltb}
 use Rattle.text.specs.Bytes.{bytes}
 use Rattle.syntax.specs.Bounds.{maxNodes, maxDefinitions}
 use Rattle.text.specs.Strings.{sameName}
-use Rattle.names.specs.Fingerprint.{fingerprintOf}
+use Rattle.names.specs.Inner.Fingerprint.{fingerprintOf}
 use Rattle.syntax.specs.Tree.{Ad, size, nodes}
 use Rattle.ad.specs.Layout.{Named, adWords, storedWords, storedBytes}
 use Rattle.graph.specs.Members.{Each}
@@ -85,7 +85,7 @@ definitionAt n name [] = []
 definitionAt n name (d ∷ ds) =
     cond (sameName (d .name) name) ((n + size (d .expression) - 1) ∷ []) (definitionAt (n + size (d .expression)) name ds)
 
--- What a well-formed stored ad keeps to, of its room, nodes and definitions: for 'a stored ad is well formed exactly if ..'.
+-- What a well-formed stored ad keeps to, of its room, nodes and definitions
 pub record Formed (w : List ℕ) : Type 0 where
   pub words-room : adWords ≤ length w
   pub operands-below : (i : ℕ) → i < nodeCount w → Each (λ y. y < i) (operands w i)

@@ -15,7 +15,7 @@ use Rattle.graph.specs.Transition.{named, led, searchedTo, backOpen, backClosed
 use Rattle.graph.specs.Laws.Transitions.{state-eq, transition-seek, transition-skip, transition-discover, transition-cross, transition-tie, transition-leave-open, transition-collect, transition-close, transition-complete}
 use Rattle.graph.specs.declared.Place.{Place}
 use Rattle.graph.specs.declared.Place.the-variants.{Starting, Searching, Closing, Between}
-use Rattle.marks.specs.Memory.{view, markAt, marksRoom, markWords, fill, flaggedAt, AtSeek, AtLoopLink, AtLoopLast}
+use Rattle.marks.specs.Inner.Memory.{view, markAt, marksRoom, markWords, fill, flaggedAt, AtSeek, AtLoopLink, AtLoopLast}
 use Rattle.marks.proofs.Slices.{names-none, names-some, mark-set, mark-keep, raised-flagged, length-fill, fill-at, fill-before, fill-behind}
 
 -- ---- places

@@ -15,7 +15,7 @@ use Rattle.graph.specs.Transition.{named, needed, back, marked, searchedTo, res
 use Rattle.graph.specs.Laws.Transitions.{state-eq, transition-resolve, transition-begin, transition-omit, transition-pass, transition-enter, transition-leave}
 use Rattle.graph.specs.declared.Place.{Place}
 use Rattle.graph.specs.declared.Place.the-variants.{Resolving, Starting, Between, Inside}
-use Rattle.marks.specs.Memory.{view, markAt, marksRoom, markWords, fill, AtNode, AtStart, AtLink, AtLast, Grows}
+use Rattle.marks.specs.Inner.Memory.{view, markAt, marksRoom, markWords, fill, AtNode, AtStart, AtLink, AtLast, Grows}
 use Rattle.marks.proofs.Slices.{names-none, names-some, numbers-set, mark-set, mark-keep, fill-at, fill-behind}
 
 module _ (G : Graph) (k : ℕ) {r : ℕ} {f : List ℕ} (e : named G r ≡ f) where

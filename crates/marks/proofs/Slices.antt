@@ -14,7 +14,7 @@ use Rattle.graph.specs.Graph.{Graph}
 use Rattle.graph.specs.Transition.{named}
 use Rattle.graph.specs.Laws.Transitions.{named-of, named-none}
 use Rattle.graph.specs.Laws.Members.{put-same, put-other, eqb-yes, ltb-no}
-use Rattle.marks.specs.Memory.{markAt, marksRoom, markWords, fill, flaggedAt, Flagged}
+use Rattle.marks.specs.Inner.Memory.{markAt, marksRoom, markWords, fill, flaggedAt, Flagged}
 
 pub numbers-set : (l : List ℕ) (x v : ℕ) → x < length l → numbers (set l x v) ≡ put (numbers l) x v
 numbers-set l x v h = fun-ext (λ i. case i (ℕ-discrete x i))

@@ -16,7 +16,7 @@ ghost use lib.ListN.{length, set};
 ghost use Rattle.graph.specs.Graph.{Graph};
 ghost use Rattle.graph.specs.Transition.{named, searchedTo, backOpen, backClosed, nextOpen, transition};
 ghost use Rattle.graph.specs.declared.Place.the-variants.{Starting, Searching, Closing};
-ghost use Rattle.marks.specs.Memory.{view, marksRoom, markWords, Flagged, flaggedAt, AtSeek, AtLoopLink, AtLoopLast, AtClose};
+ghost use Rattle.marks.specs.Inner.Memory.{view, marksRoom, markWords, Flagged, flaggedAt, AtSeek, AtLoopLink, AtLoopLast, AtClose};
 
 // Where the traversal goes on when k of n loop searches are done.
 fn searched_to(k: usize, n: usize) -> Place

@@ -18,7 +18,7 @@ ghost use lib.ListN.{length};
 ghost use Rattle.graph.specs.Graph.{Graph};
 ghost use Rattle.graph.specs.Transition.{named, back, transition};
 ghost use Rattle.graph.specs.declared.Place.the-variants.{Resolving, Between, Inside};
-ghost use Rattle.marks.specs.Memory.{view, marksRoom, markWords, AtNode, AtStart, AtLink, AtLast, Grows};
+ghost use Rattle.marks.specs.Inner.Memory.{view, marksRoom, markWords, AtNode, AtStart, AtLink, AtLast, Grows};
 
 // Where the traversal stands, and how long the list is.
 pub struct Position {

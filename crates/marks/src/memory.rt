@@ -5,7 +5,7 @@ ghost use Prim.Native.Nat.{_+_, _*_, _≤_, _<_};
 ghost use lib.ListN.{length, set};
 ghost use Rattle.graph.specs.Graph.{Graph};
 ghost use Rattle.graph.specs.Transition.{named};
-ghost use Rattle.marks.specs.Memory.{markAt, marksRoom, markWords, fill};
+ghost use Rattle.marks.specs.Inner.Memory.{markAt, marksRoom, markWords, fill};
 
 const PER_NODE: usize = 6;
 

@@ -34,11 +34,11 @@ isReference (ofThree i j k) = false
 unfoldable pub leadsFrom : Ad → Ad → ℕ → List (Bool × ℕ)
 leadsFrom a a′ i = getD (map (leads a a′) (nodesIn 0 a)) i []
 
--- whether node i of the ad a is a reference: for 'A reference that leads, in one or more steps, back to itself'
+-- whether node i of the ad a is a reference
 unfoldable pub isReferenceAt : Ad → ℕ → Bool
 isReferenceAt a i = getD (map isReference (nodesIn 0 a)) i false
 
--- the own node of a name's definition, numbered: one or none, for 'those that exist'
+-- the own node of a name's definition, numbered: one or none
 abbrev pub rootOf : Bool → List ℕ → Ad → List ℕ
 rootOf second name a = map (numbered second) (definitionAt 0 name a)
 

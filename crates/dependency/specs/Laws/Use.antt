@@ -11,7 +11,7 @@ use Rattle.graph.specs.Graph.{Graph, Sound, needs}
 use Rattle.graph.specs.Transition.{named, led}
 use Rattle.graph.specs.Laws.Traversal.{marks-back}
 use Rattle.links.specs.Pair.{Formed}
-use Rattle.marks.specs.Memory.{marksRoom, Clear}
+use Rattle.marks.specs.Inner.Memory.{marksRoom, Clear}
 use Rattle.dependency.specs.Traversal.{Ready, Traversed}
 
 pub clear-zeros : (n : ℕ) → Clear (replicate n 0)

@@ -59,7 +59,7 @@ Flagged x before after = (after ≡ before) ⊎ (after ≡ set before x 1)
 
 -- ---- what a transition goes by: facts of the place and of the node or link at hand, and none of the other marks
 
--- the i-th node, x, of n is to be resolved: for 'the one node or link at hand alone'
+-- the i-th node, x, of n is to be resolved
 pub record AtNode (G : Graph) (i n x found : ℕ) : Type 0 where
   pub size-is : n ≡ G .size
   pub node-is : x ≡ G .nth i
@@ -105,7 +105,7 @@ pub record AtLast (G : Graph) (x f : ℕ) (target marks flag : List ℕ) : Type 
   pub over : length (needed G (numbers target) (raised flag) x) ≤ markAt marks 2 x
   pub from-is : f ≡ markAt marks 1 x
 
--- the list grows from len to len′ entries, and what lies behind them stays: for 'only that node's marks or one entry of the list'
+-- the list grows from len to len′ entries, and what lies behind them stays
 pub record Grows (len len′ : ℕ) (list list′ : List ℕ) : Type 0 where
   pub longer : len ≤ len′
   pub fits : len ≤ length list → len′ ≤ length list
