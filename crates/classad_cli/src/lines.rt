@@ -1,5 +1,6 @@
 // The lines about files and the command line, and how all lines are written. `out` is whether standard output takes what is
 // written: once it does not, that is said on standard error, and nothing more is written.
+use crate::phrases::phrase;
 
 pub fn say(out: &mut bool, bytes: &[u8]) {
     if !*out {
@@ -53,22 +54,6 @@ pub fn accepted(out: &mut bool, name: &[u8], definitions: usize, nodes: usize) {
     say(out, b" definitions, ");
     number(out, nodes as u64);
     say(out, b" nodes\n");
-}
-
-fn phrase(out: &mut bool, refusal: u8) {
-    match refusal {
-        1 => say(out, b"memory too small\n"),
-        2 => say(out, b"text over 16,384 bytes\n"),
-        3 => say(out, b"no token starts here, or a bad or unclosed string\n"),
-        4 => say(out, b"token does not fit here\n"),
-        5 => say(out, b"Integer over 2,147,483,647 or Real over 15 digits\n"),
-        6 => say(out, b"nested deeper than level 64\n"),
-        7 => say(out, b"name over 64 bytes or string over 1,024 bytes\n"),
-        8 => say(out, b"name defined twice\n"),
-        9 => say(out, b"over 256 definitions or over 1,024 nodes\n"),
-        10 => say(out, b"stored ad is not well formed\n"),
-        _ => say(out, b"printed text over 16,384 bytes\n"),
-    }
 }
 
 // Whether a refusal's place is one of the text, and not 0 by rule.
@@ -139,7 +124,7 @@ pub fn refused(out: &mut bool, name: &[u8], text: &[u8], refusal: u8, place: usi
     number(out, place as u64);
     if !has_place(refusal) {
         say(out, b": ");
-        phrase(out, refusal);
+        phrase(out, text, refusal, place);
         return;
     }
     let p = classad::locate(text, place);
@@ -148,6 +133,6 @@ pub fn refused(out: &mut bool, name: &[u8], text: &[u8], refusal: u8, place: usi
     say(out, b", column ");
     number(out, p.column as u64);
     say(out, b"): ");
-    phrase(out, refusal);
+    phrase(out, text, refusal, place);
     caret(out, text, place, p.column);
 }

@@ -1,6 +1,7 @@
 // The command classad over the proved library. docs/COMMANDS.md says what it writes.
 mod input;
 mod lines;
+mod phrases;
 mod shown;
 mod verdict;
 
