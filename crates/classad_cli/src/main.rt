@@ -3,6 +3,7 @@ mod input;
 mod lines;
 mod phrases;
 mod shown;
+mod stored;
 mod verdict;
 
 use input::Budget;
@@ -108,9 +109,9 @@ fn print_file(out: &mut bool) {
 // Matches two stored ads, and shows each entry of the list where `trace` asks for it.
 fn match_stored<'a>(
     out: &mut bool,
-    first: &[u64],
+    first: &[u64; 4864],
     first_bytes: &'a [u8],
-    second: &[u64],
+    second: &[u64; 4864],
     second_bytes: &'a [u8],
     trace: bool,
     budget: u16,
@@ -129,7 +130,16 @@ fn match_stored<'a>(
     if trace {
         shown::entries(out, first, first_bytes, second, second_bytes, &table, &list);
     }
-    verdict::outcome(out, outcome, shown::entry_count(&list));
+    verdict::outcome(
+        out,
+        outcome,
+        first,
+        first_bytes,
+        second,
+        second_bytes,
+        &table,
+        shown::entry_count(&list),
+    );
 }
 
 // Whether a text was refused, which is then said.
@@ -146,9 +156,9 @@ fn is_refused(out: &mut bool, name: &[u8], text: &[u8], answer: Answer) -> bool 
 fn do_task<'a>(
     out: &mut bool,
     task: Task,
-    first: &[u64],
+    first: &[u64; 4864],
     first_bytes: &'a [u8],
-    second: &[u64],
+    second: &[u64; 4864],
     second_bytes: &'a [u8],
 ) {
     match task {

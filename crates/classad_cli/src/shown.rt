@@ -17,6 +17,14 @@ pub fn entry_count(list: &[u64]) -> usize {
     n
 }
 
+pub fn side(out: &mut bool, second: bool) {
+    if second {
+        say(out, b"second");
+        return;
+    }
+    say(out, b"first");
+}
+
 // The definition that a node belongs to, and its expression.
 fn node_line(out: &mut bool, words: &[u64], bytes: &[u8], node: usize) {
     say(out, classad::definition_name(words, bytes, node));
@@ -143,7 +151,7 @@ fn value<'a>(out: &mut bool, v: Value, first_bytes: &'a [u8], second_bytes: &'a 
     }
 }
 
-fn slot<'a>(out: &mut bool, s: Slot, first_bytes: &'a [u8], second_bytes: &'a [u8]) {
+pub fn slot<'a>(out: &mut bool, s: Slot, first_bytes: &'a [u8], second_bytes: &'a [u8]) {
     match s {
         Slot::Blank => say(out, b"blank"),
         Slot::Held(v) => value(out, v, first_bytes, second_bytes),
