@@ -34,7 +34,9 @@ pub fn usage(out: &mut bool, wrong: bool) {
     usage_line(out, wrong, b"       classad print FILE\n");
     usage_line(out, wrong, b"       classad match FIRST SECOND [BUDGET]\n");
     usage_line(out, wrong, b"       classad trace FIRST SECOND [BUDGET]\n");
+    usage_line(out, wrong, b"       classad graph FIRST SECOND\n");
     usage_line(out, wrong, b"       classad help\n");
+    usage_line(out, wrong, b"       classad --version\n");
     usage_line(
         out,
         wrong,
@@ -45,6 +47,10 @@ pub fn usage(out: &mut bool, wrong: bool) {
         wrong,
         b"BUDGET is digits, 0 to 65535; without it the budget is 65535.\n",
     );
+}
+
+pub fn version(out: &mut bool) {
+    say(out, b"classad 0.1.0\n");
 }
 
 pub fn accepted(out: &mut bool, name: &[u8], definitions: usize, nodes: usize) {

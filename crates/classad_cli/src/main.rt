@@ -1,4 +1,5 @@
 // The command classad over the proved library. docs/COMMANDS.md says what it writes.
+mod drawing;
 mod input;
 mod lines;
 mod phrases;
@@ -8,6 +9,7 @@ mod verdict;
 
 use input::Budget;
 use input::Input;
+use ordering::Order;
 use printer::Printed;
 use reader::Answer;
 
@@ -16,7 +18,9 @@ enum Command {
     Print,
     Match,
     Trace,
+    Graph,
     Help,
+    Version,
     Unknown,
 }
 
@@ -24,6 +28,17 @@ enum Command {
 enum Task {
     Match(u16),
     Trace(u16),
+    Graph,
+}
+
+fn is_help(word: &[u8]) -> bool {
+    if text::same_bytes(word, b"help") {
+        return true;
+    }
+    if text::same_bytes(word, b"--help") {
+        return true;
+    }
+    text::same_bytes(word, b"-h")
 }
 
 fn command_of(word: &[u8]) -> Command {
@@ -39,7 +54,13 @@ fn command_of(word: &[u8]) -> Command {
     if text::same_bytes(word, b"trace") {
         return Command::Trace;
     }
-    if text::same_bytes(word, b"help") {
+    if text::same_bytes(word, b"graph") {
+        return Command::Graph;
+    }
+    if text::same_bytes(word, b"--version") {
+        return Command::Version;
+    }
+    if is_help(word) {
         return Command::Help;
     }
     Command::Unknown
@@ -142,6 +163,31 @@ fn match_stored<'a>(
     );
 }
 
+fn graph_stored(
+    out: &mut bool,
+    first: &[u64; 4864],
+    first_bytes: &[u8],
+    second: &[u64; 4864],
+    second_bytes: &[u8],
+) {
+    let mut flags = [0usize; 2048];
+    let mut list = [0u64; 2048];
+    let order = classad::order_ads(
+        first,
+        first_bytes,
+        second,
+        second_bytes,
+        &mut flags,
+        &mut list,
+    );
+    match order {
+        Order::Refused(k, p) => lines::refused(out, b"graph", b"", k, p),
+        Order::Found(_, _) => {
+            drawing::draw(out, first, first_bytes, second, second_bytes, &flags)
+        }
+    }
+}
+
 // Whether a text was refused, which is then said.
 fn is_refused(out: &mut bool, name: &[u8], text: &[u8], answer: Answer) -> bool {
     match answer {
@@ -168,6 +214,7 @@ fn do_task<'a>(
         Task::Trace(budget) => {
             match_stored(out, first, first_bytes, second, second_bytes, true, budget)
         }
+        Task::Graph => graph_stored(out, first, first_bytes, second, second_bytes),
     }
 }
 
@@ -248,6 +295,18 @@ fn match_command(out: &mut bool, count: usize, trace: bool) {
     }
 }
 
+fn graph_command(out: &mut bool, count: usize) {
+    if count != 4 {
+        lines::usage(out, true);
+        return;
+    }
+    if input::inputs(2, 4) > 1 {
+        lines::usage(out, true);
+        return;
+    }
+    pair_files(out, Task::Graph);
+}
+
 fn check_command(out: &mut bool, count: usize) {
     if count < 3 {
         lines::usage(out, true);
@@ -268,8 +327,16 @@ fn print_command(out: &mut bool, count: usize) {
     lines::usage(out, true);
 }
 
+fn version_command(out: &mut bool, count: usize) {
+    if count == 2 {
+        lines::version(out);
+        return;
+    }
+    lines::usage(out, true);
+}
+
 fn main() {
-    let mut word = [0u8; 8];
+    let mut word = [0u8; 16];
     let n = os::arg(1, &mut word);
     let count = os::arg_count();
     let mut out = true;
@@ -278,7 +345,9 @@ fn main() {
         Command::Print => print_command(&mut out, count),
         Command::Match => match_command(&mut out, count, false),
         Command::Trace => match_command(&mut out, count, true),
+        Command::Graph => graph_command(&mut out, count),
         Command::Help => lines::usage(&mut out, count != 2),
+        Command::Version => version_command(&mut out, count),
         Command::Unknown => lines::usage(&mut out, true),
     }
 }
