@@ -21,7 +21,8 @@ use Rattle.reader.specs.declared.Answer.{Answer}
 use Rattle.reader.specs.declared.Answer.the-variants as reading
 use Rattle.reader.specs.Content.{answerOf, wordsOf, bytesOf, answer, wordsAfter, bytesAfter, Answered}
 use Rattle.matching.specs.Matching as M
-use Rattle.matching.specs.Matching.{Well, Matched, no-room, first-malformed, second-malformed, matches, tableWords, listWords}
+use Rattle.matching.specs.Matching.{Matched, no-room, first-malformed, second-malformed, matches, tableWords}
+use Rattle.admission.specs.Admission.{Well, listWords}
 use Rattle.matching.specs.declared.Outcome.{Outcome}
 use Rattle.matching.specs.declared.Outcome.the-variants.{Refused}
 

@@ -13,8 +13,9 @@ use Rattle.graph.specs.Laws.Members.{ltb-no}
 use Rattle.links.specs.Pair.{Formed}
 use Rattle.reader.specs.declared.Answer.the-variants.{Accepted}
 use Rattle.reader.specs.Content.{Answered}
-use Rattle.matching.specs.Matching.{Match, Matched, no-room, first-malformed, second-malformed, matches, small, tableWords, listWords}
-use Rattle.matching.specs.Laws.Wells.{formed-of}
+use Rattle.matching.specs.Matching.{Match, Matched, no-room, first-malformed, second-malformed, matches, small, tableWords}
+use Rattle.admission.specs.Admission.{listWords}
+use Rattle.admission.specs.Laws.Wells.{formed-of}
 use Rattle.matching.specs.Laws.Exchange.{Exchanged, finished, unfinished, exchange}
 use Rattle.matching.specs.Laws.OneAnswer.{match-one}
 use Rattle.matching.specs.declared.Outcome.{Outcome}

@@ -17,7 +17,8 @@ use Rattle.printer.specs.Prints.{Roomy, Prints}
 use Rattle.printer.specs.declared.Printed.the-variants.{Text}
 use Rattle.reader.specs.declared.Answer.{Answer}
 use Rattle.reader.specs.Content.{Answered}
-use Rattle.matching.specs.Matching.{Well, Matched, no-room, first-malformed, second-malformed, matches, small}
+use Rattle.matching.specs.Matching.{Matched, no-room, first-malformed, second-malformed, matches, small}
+use Rattle.admission.specs.Admission.{Well}
 use Rattle.matching.specs.declared.Outcome.{Outcome}
 use Rattle.theorems.specs.Texts.{match-cast}
 use Rattle.theorems.specs.Printing.{ReadBack, print-then-read}
