@@ -13,13 +13,13 @@ use Rattle.syntax.specs.Bounds.{textBytes}
 use Rattle.syntax.specs.Tree.{Ad}
 use Rattle.syntax.specs.Token.{pick}
 use Rattle.syntax.specs.Reader as R
-use Rattle.ad.specs.Layout.{adWords, adBytesRoom, storedWords, storedBytes}
+use Rattle.ad.specs.Layout.{smallAd, adWords, adBytesRoom, storedWords, storedBytes}
 use Rattle.well_formed.specs.WellFormed.{Holds}
 use Rattle.well_formed.specs.Laws.Bounds.{read-holds}
 use Rattle.well_formed.specs.Laws.Whole.{holds-long}
 use Rattle.reader.specs.declared.Answer.{Answer}
 use Rattle.reader.specs.declared.Answer.the-variants as reading
-use Rattle.reader.specs.Content.{answerOf, wordsOf, bytesOf, small, answer, wordsAfter, bytesAfter, Answered}
+use Rattle.reader.specs.Content.{answerOf, wordsOf, bytesOf, answer, wordsAfter, bytesAfter, Answered}
 use Rattle.matching.specs.Matching as M
 use Rattle.matching.specs.Matching.{Well, Matched, no-room, first-malformed, second-malformed, matches, tableWords, listWords}
 use Rattle.matching.specs.declared.Outcome.{Outcome}
@@ -57,7 +57,7 @@ long s h = rw h refl
 -- WHAT AN ACCEPTED READING LEAVES IS READY FOR A MATCH, whatever the memory was
 pub accepted-ready : (s w b w′ b′ : List ℕ) (d n : ℕ) → Answered s w b w′ b′ (reading.Accepted d n) → Ready w′ b′
 unfolding answer wordsAfter bytesAfter
-accepted-ready s w b w′ b′ d n x = go (small w b) (R.read s) refl (x .answers) (x .words) (x .bytes)
+accepted-ready s w b w′ b′ d n x = go (smallAd w b) (R.read s) refl (x .answers) (x .words) (x .bytes)
   where
     go : (t : Bool) (r : R.Answer) → R.read s ≡ r → reading.Accepted d n ≡ pick t (λ _. reading.Refused 1 0) (λ _. answerOf r) →
         w′ ≡ pick (t || ltb textBytes (length s)) (λ _. w) (λ _. wordsOf r ++ drop adWords w) → b′ ≡ pick (t || ltb textBytes (length s)) (λ _. b) (λ _. bytesOf r ++ drop adBytesRoom b) → Ready w′ b′

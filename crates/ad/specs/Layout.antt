@@ -1,9 +1,10 @@
 -- The layout of a stored ad: what the words and bytes of its memory hold (docs/LAYOUT.md). 'Layouts are the team's, written in
 -- docs/; equal trees have equal content.' Assumes nothing.
 use Prim.Native.Nat.{ℕ, zero, suc, _+_, _-_, _*_, _≤_, _<_}
-use mathlib.Core.Bool.{Bool, true, false, cond}
+use mathlib.Core.Bool.{Bool, true, false, cond, _||_}
 use mathlib.Core.List.{List, [], _∷_, _++_}
 use lib.ListN.{length, replicate}
+use lib.Dec.{ltb}
 use Rattle.syntax.specs.Bounds.{maxNodes, maxDefinitions, textBytes}
 use Rattle.syntax.specs.Tree.{Literal, undefined, error, boolean, integer, real, string, Scope, own, other, Expr, literal, reference, unary, binary, conditional, Definition, Ad, size}
 use Rattle.syntax.specs.declared.Binary.{Binary}
@@ -20,7 +21,7 @@ unaryKind Plus = 10
 unaryKind Minus = 11
 
 -- 'A node is .. an operator': the kinds of the binary operators, from `||` to `* / %`, 'loosest first'; 12 is `? :`. The numbers
--- are those of docs/LAYOUT.md: 'Layouts are the team's, written in docs/'
+-- are those of docs/LAYOUT.md
 abbrev pub binaryKind : Binary → ℕ
 binaryKind Or = 13
 binaryKind And = 14
@@ -43,12 +44,12 @@ unfoldable pub scopeKind : Scope → ℕ
 scopeKind own = 7
 scopeKind other = 8
 
--- a node as it is stored: its kind, and up to three operands or data (docs/LAYOUT.md: 'Layouts are the team's, written in docs/')
+-- a node as it is stored: its kind, and up to three operands or data (docs/LAYOUT.md)
 abbrev pub node : ℕ → ℕ → ℕ → ℕ → List ℕ
 node k a b c = k ∷ a ∷ b ∷ c ∷ []
 
--- 'A node is a literal ..'; a real literal's 'keeps its digits read as one whole number and the count after the point'. The
--- string, if it is one, is stored from byte o on (docs/LAYOUT.md: 'Layouts are the team's, written in docs/')
+-- 'A node is a literal ..'; a real literal's 'keeps its digits read as one whole number and the count after the point'. The string,
+-- if it is one, is stored from byte o on (docs/LAYOUT.md)
 unfoldable pub literalNode : ℕ → Literal → List ℕ
 literalNode o undefined = node 1 0 0 0
 literalNode o error = node 2 0 0 0
@@ -76,8 +77,8 @@ exprBytes (unary u a) = exprBytes a
 exprBytes (binary j a b) = exprBytes a ++ exprBytes b
 exprBytes (conditional a b c) = exprBytes a ++ (exprBytes b ++ exprBytes c)
 
--- the bytes of an ad: each definition's name, then those of its expression, for '16,384 bytes of names and strings'; their order
--- is that of docs/LAYOUT.md: 'Layouts are the team's, written in docs/'
+-- the bytes of an ad: each definition's name, then those of its expression, for '16,384 bytes of names and strings'; their order is
+-- that of docs/LAYOUT.md
 unfoldable pub adBytes : Ad → List ℕ
 adBytes [] = []
 adBytes (d ∷ ds) = d .name ++ (exprBytes (d .expression) ++ adBytes ds)
@@ -146,3 +147,7 @@ storedWords a = padded nodeWords (adNodes 0 0 a) ++ padded (adWords - nodeWords)
 -- what its bytes hold: 'exactly this content, zeros included'
 unfoldable pub storedBytes : Ad → List ℕ
 storedBytes a = padded adBytesRoom (adBytes a)
+
+-- 'lent room smaller than above', of an ad
+abbrev pub smallAd : List ℕ → List ℕ → Bool
+smallAd w b = ltb (length w) adWords || ltb (length b) adBytesRoom

@@ -19,33 +19,27 @@ unfoldable pub leading : (ℕ → ℕ) → ℕ → ℕ → ℕ
 leading f i zero = 0
 leading f i (suc k) = cond (eqb (f i) 0) 0 (suc (leading f (suc i) k))
 
--- the kind of node i; no kind is 0 (docs/LAYOUT.md: 'Layouts are the team's, written in docs/'): for 'A node is a literal, a
--- reference or an operator.'
+-- the kind of node i; no kind is 0 (docs/LAYOUT.md)
 abbrev pub kindAt : List ℕ → ℕ → ℕ
 kindAt w i = getD w (4 * i) 0
 
--- node i's operand or datum j, from 0 to 2 (docs/LAYOUT.md: 'Layouts are the team's, written in docs/'): for 'An operator leads
--- to all its operands'
+-- node i's operand or datum j, from 0 to 2 (docs/LAYOUT.md)
 abbrev pub operandAt : List ℕ → ℕ → ℕ → ℕ
 operandAt w i j = getD w (4 * i + 1 + j) 0
 
--- how many nodes are stored: the counts follow from the content (docs/LAYOUT.md: 'Layouts are the team's, written in docs/'), as
--- 'Unused room is zero after acceptance'
+-- how many nodes are stored: the counts follow from the content (docs/LAYOUT.md), as 'Unused room is zero after acceptance'
 unfoldable pub nodeCount : List ℕ → ℕ
 nodeCount w = leading (kindAt w) 0 maxNodes
 
--- definition j: its name's offset, for 'definitions `name = expression`' (docs/LAYOUT.md: 'Layouts are the team's, written in
--- docs/')
+-- definition j: its name's offset, for 'definitions `name = expression`' (docs/LAYOUT.md)
 abbrev pub offsetAt : List ℕ → ℕ → ℕ
 offsetAt w j = getD w (nodeWords + 3 * j) 0
 
--- definition j: its name's length, for 'definitions `name = expression`' (docs/LAYOUT.md: 'Layouts are the team's, written in
--- docs/')
+-- definition j: its name's length, for 'definitions `name = expression`' (docs/LAYOUT.md)
 abbrev pub lengthAt : List ℕ → ℕ → ℕ
 lengthAt w j = getD w (nodeWords + 3 * j + 1) 0
 
--- definition j: the node of its expression, for 'A reference leads to its definition' (docs/LAYOUT.md: 'Layouts are the team's,
--- written in docs/')
+-- definition j: the node of its expression, for 'A reference leads to its definition' (docs/LAYOUT.md)
 abbrev pub rootAt : List ℕ → ℕ → ℕ
 rootAt w j = getD w (nodeWords + 3 * j + 2) 0
 
@@ -57,12 +51,11 @@ definitionCount w = leading (lengthAt w) 0 maxDefinitions
 abbrev pub bytesAt : List ℕ → ℕ → ℕ → List ℕ
 bytesAt b o n = take n (drop o b)
 
--- how many operands a node of kind k has: unary operators one, `? :` three, binary operators two, all else none: for 'An operator
--- leads to all its operands'
+-- how many operands a node of kind k has: unary operators one, `? :` three, binary operators two, all else none
 unfoldable pub arity : ℕ → ℕ
 arity k = cond (ltb k 9) 0 (cond (ltb k 12) 1 (cond (eqb k 12) 3 (cond (ltb k 28) 2 0)))
 
--- the operator of one operand of a node of kind k: 'unary `! + -`' (docs/LAYOUT.md: 'Layouts are the team's, written in docs/')
+-- the operator of one operand of a node of kind k: 'unary `! + -`' (docs/LAYOUT.md)
 unfoldable pub unaryOf : ℕ → Unary
 unaryOf k = pick (eqb k 9) (λ _. Not) (λ _. pick (eqb k 10) (λ _. Plus) (λ _. Minus))
 
@@ -94,8 +87,7 @@ operands w i = take (arity (kindAt w i)) (operandAt w i 0 ∷ operandAt w i 1 �
 abbrev pub nameAt : List ℕ → List ℕ → ℕ → List ℕ
 nameAt w b i = bytesAt b (operandAt w i 0) (operandAt w i 1)
 
--- whether one of k stored definitions, from definition j on, has a name: for 'name defined twice'; 'Names match without regard to
--- ASCII case'
+-- whether one of k stored definitions, from definition j on, has a name
 unfoldable pub definedIn : List ℕ → List ℕ → List ℕ → ℕ → ℕ → Bool
 definedIn w b name j zero = false
 definedIn w b name j (suc k) = sameName (bytesAt b (offsetAt w j) (lengthAt w j)) name || definedIn w b name (j + 1) k

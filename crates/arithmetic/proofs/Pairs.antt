@@ -2,7 +2,7 @@
 use mathlib.Core.Path.{_≡_, sym, ap, ap₂, _∙_}
 use Rattle.values.specs.declared.Value.{Value}
 use Rattle.operands.specs.declared.Operands.{Operands}
-use Rattle.operands.specs.Operands.{operandsOf, numberOnly}
+use Rattle.operands.specs.Inner.Operands.{operandsOf, numberOnly}
 use Rattle.arithmetic.specs.declared.Arithmetic.{Arithmetic}
 use Rattle.arithmetic.specs.Arithmetic.{arithmeticResult, arithmeticValue}
 use Rattle.arithmetic.specs.Laws.Strict.{arithmetic-by-pair}

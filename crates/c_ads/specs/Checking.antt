@@ -1,20 +1,15 @@
 -- What `classad_check` gives: the contract of the check, and its answer as four numbers. Assumes nothing.
 use Prim.Native.Nat.{ℕ}
 use mathlib.Core.Path.{_≡_}
-use mathlib.Core.Bool.{Bool, true, false, _||_}
+use mathlib.Core.Bool.{true, false}
 use mathlib.Core.List.{List, [], _∷_}
 use lib.ListN.{length, take}
-use lib.Dec.{ltb}
 use Rattle.syntax.specs.Tree.{Ad, nodes}
 use Rattle.syntax.specs.Print.{printedAd}
-use Rattle.ad.specs.Layout.{adWords, adBytesRoom}
+use Rattle.ad.specs.Layout.{adWords, adBytesRoom, smallAd}
 use Rattle.well_formed.specs.WellFormed.{Holds}
 use Rattle.well_formed.specs.declared.Checked.{Checked}
 use Rattle.well_formed.specs.declared.Checked.the-variants.{WellFormed, Malformed}
-
--- 'lent room smaller than above', of one ad
-abbrev pub smallAd : List ℕ → List ℕ → Bool
-smallAd w b = ltb (length w) adWords || ltb (length b) adBytesRoom
 
 -- what the check answers as numbers, 10, or 0 and what it counted: 'a definition that gives this paper's number and values for
 -- each case of the enum'

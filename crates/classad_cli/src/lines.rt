@@ -1,58 +1,70 @@
-// The lines that the command writes.
-use matching::Outcome;
+// The lines about files and the command line, and how all lines are written. `out` is whether standard output takes what is
+// written: once it does not, that is said on standard error, and nothing more is written.
+use crate::phrases::phrase;
 
-pub fn say(bytes: &[u8]) {
-    io::write_all(libc::STDOUT_FILENO, bytes);
+pub fn say(out: &mut bool, bytes: &[u8]) {
+    if !*out {
+        return;
+    }
+    if io::write_all(libc::STDOUT_FILENO, bytes) {
+        return;
+    }
+    *out = false;
+    io::write_all(libc::STDERR_FILENO, b"classad: ");
+    os::fail(b"standard output");
 }
 
-pub fn number(n: u64) {
-    io::print_decimal(libc::STDOUT_FILENO, n);
+pub fn number(out: &mut bool, n: u64) {
+    let mut digits = [0u8; 20];
+    let k = io::decimal(n, &mut digits);
+    say(out, &digits[..k]);
 }
 
-pub fn usage(fd: i32) {
-    io::write_all(fd, b"usage: classad check FILE..\n");
-    io::write_all(fd, b"       classad print FILE\n");
-    io::write_all(fd, b"       classad match FIRST SECOND [BUDGET]\n");
-    io::write_all(fd, b"       classad trace FIRST SECOND [BUDGET]\n");
-    io::write_all(fd, b"       classad help\n");
-    io::write_all(
-        fd,
+// A line of the usage text, on standard error where the command line is wrong.
+fn usage_line(out: &mut bool, wrong: bool, line: &[u8]) {
+    if wrong {
+        io::write_all(libc::STDERR_FILENO, line);
+        return;
+    }
+    say(out, line);
+}
+
+pub fn usage(out: &mut bool, wrong: bool) {
+    usage_line(out, wrong, b"usage: classad check FILE..\n");
+    usage_line(out, wrong, b"       classad print FILE\n");
+    usage_line(out, wrong, b"       classad match FIRST SECOND [BUDGET]\n");
+    usage_line(out, wrong, b"       classad trace FIRST SECOND [BUDGET]\n");
+    usage_line(out, wrong, b"       classad graph FIRST SECOND\n");
+    usage_line(out, wrong, b"       classad help\n");
+    usage_line(out, wrong, b"       classad --version\n");
+    usage_line(
+        out,
+        wrong,
         b"FILE, FIRST and SECOND may be - for standard input, at most once.\n",
     );
-    io::write_all(
-        fd,
+    usage_line(
+        out,
+        wrong,
         b"BUDGET is digits, 0 to 65535; without it the budget is 65535.\n",
     );
 }
 
-pub fn accepted(name: &[u8], definitions: usize, nodes: usize) {
-    say(name);
-    say(b": accepted, ");
-    number(definitions as u64);
-    say(b" definitions, ");
-    number(nodes as u64);
-    say(b" nodes\n");
+pub fn version(out: &mut bool) {
+    say(out, b"classad 0.1.0\n");
 }
 
-fn phrase(k: u8) {
-    match k {
-        1 => say(b"memory too small\n"),
-        2 => say(b"text over 16,384 bytes\n"),
-        3 => say(b"no token starts here, or a bad or unclosed string\n"),
-        4 => say(b"token does not fit here\n"),
-        5 => say(b"Integer over 2,147,483,647 or Real over 15 digits\n"),
-        6 => say(b"nested deeper than level 64\n"),
-        7 => say(b"name over 64 bytes or string over 1,024 bytes\n"),
-        8 => say(b"name defined twice\n"),
-        9 => say(b"over 256 definitions or over 1,024 nodes\n"),
-        10 => say(b"stored ad is not well formed\n"),
-        _ => say(b"printed text over 16,384 bytes\n"),
-    }
+pub fn accepted(out: &mut bool, name: &[u8], definitions: usize, nodes: usize) {
+    say(out, name);
+    say(out, b": accepted, ");
+    number(out, definitions as u64);
+    say(out, b" definitions, ");
+    number(out, nodes as u64);
+    say(out, b" nodes\n");
 }
 
 // Whether a refusal's place is one of the text, and not 0 by rule.
-fn has_place(k: u8) -> bool {
-    match k {
+fn has_place(refusal: u8) -> bool {
+    match refusal {
         1 => false,
         2 => false,
         10 => false,
@@ -63,29 +75,29 @@ fn has_place(k: u8) -> bool {
 
 // Every byte takes one column.
 fn shown_byte(b: u8) -> u8 {
-    if b == 9 {
-        return 32;
+    if b == b'\t' {
+        return b' ';
     }
-    if b < 32 {
-        return 63;
+    if b < b' ' {
+        return b'?';
     }
-    if 126 < b {
-        return 63;
+    if b'~' < b {
+        return b'?';
     }
     b
 }
 
 // Puts the bytes before the first LF, and answers how many.
-fn put_line(rest: &[u8], out: &mut [u8]) -> usize {
+fn put_line(rest: &[u8], room: &mut [u8]) -> usize {
     let mut n = 0;
-    while n < out.len() {
+    while n < room.len() {
         if rest.len() <= n {
             return n;
         }
-        if rest[n] == 10 {
+        if rest[n] == b'\n' {
             return n;
         }
-        out[n] = shown_byte(rest[n]);
+        room[n] = shown_byte(rest[n]);
         n += 1;
     }
     n
@@ -99,69 +111,34 @@ fn less(a: usize, b: usize) -> usize {
 }
 
 // The line around a place, and a caret below it.
-fn caret(text: &[u8], place: usize, column: usize) {
+fn caret(out: &mut bool, text: &[u8], place: usize, column: usize) {
     let before = less(column, 1);
     let mut line = [0u8; 16385];
     let n = put_line(ad::part(text, less(place, before), text.len()), &mut line);
-    say(ad::part(&line, 0, n));
-    say(b"\n");
-    let blanks = [32u8; 16385];
-    say(ad::part(&blanks, 0, before));
-    say(b"^\n");
+    say(out, ad::part(&line, 0, n));
+    say(out, b"\n");
+    let blanks = [b' '; 16385];
+    say(out, ad::part(&blanks, 0, before));
+    say(out, b"^\n");
 }
 
-pub fn refused(name: &[u8], text: &[u8], k: u8, place: usize) {
-    say(name);
-    say(b": refused ");
-    number(k as u64);
-    say(b" at ");
-    number(place as u64);
-    if !has_place(k) {
-        say(b": ");
-        phrase(k);
+pub fn refused(out: &mut bool, name: &[u8], text: &[u8], refusal: u8, place: usize) {
+    say(out, name);
+    say(out, b": refused ");
+    number(out, refusal as u64);
+    say(out, b" at ");
+    number(out, place as u64);
+    if !has_place(refusal) {
+        say(out, b": ");
+        phrase(out, text, refusal, place);
         return;
     }
     let p = classad::locate(text, place);
-    say(b" (line ");
-    number(p.line as u64);
-    say(b", column ");
-    number(p.column as u64);
-    say(b"): ");
-    phrase(k);
-    caret(text, place, p.column);
-}
-
-fn steps(done: usize, length: usize) {
-    say(b"steps ");
-    number(done as u64);
-    say(b" of ");
-    number(length as u64);
-    say(b"\n");
-}
-
-fn verdict(matched: bool) {
-    if matched {
-        say(b"matched\n");
-        return;
-    }
-    say(b"unmatched\n");
-}
-
-pub fn outcome(outcome: Outcome, length: usize) {
-    match outcome {
-        Outcome::Refused(k, p) => refused(b"match", b"", k, p),
-        Outcome::Finished(matched, i, j, done, _) => {
-            verdict(matched);
-            say(b"first rank ");
-            number(i as u64);
-            say(b"\nsecond rank ");
-            number(j as u64);
-            say(b"\n");
-            steps(done, length);
-        }
-        Outcome::Unfinished(done, _) => {
-            say(b"not done\n");
-            steps(done, length);
-        }
-    }
+    say(out, b" (line ");
+    number(out, p.line as u64);
+    say(out, b", column ");
+    number(out, p.column as u64);
+    say(out, b"): ");
+    phrase(out, text, refusal, place);
+    caret(out, text, place, p.column);
 }

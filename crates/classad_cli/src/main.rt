@@ -1,10 +1,15 @@
-// The command classad: check, print, match, trace and help, over the proved library. docs/COMMANDS.md says what it writes.
+// The command classad over the proved library. docs/COMMANDS.md says what it writes.
+mod drawing;
 mod input;
 mod lines;
+mod phrases;
 mod shown;
+mod stored;
+mod verdict;
 
 use input::Budget;
 use input::Input;
+use ordering::Order;
 use printer::Printed;
 use reader::Answer;
 
@@ -13,8 +18,27 @@ enum Command {
     Print,
     Match,
     Trace,
+    Graph,
     Help,
+    Version,
     Unknown,
+}
+
+// What is done with two ads; the number is a budget.
+enum Task {
+    Match(u16),
+    Trace(u16),
+    Graph,
+}
+
+fn is_help(word: &[u8]) -> bool {
+    if text::same_bytes(word, b"help") {
+        return true;
+    }
+    if text::same_bytes(word, b"--help") {
+        return true;
+    }
+    text::same_bytes(word, b"-h")
 }
 
 fn command_of(word: &[u8]) -> Command {
@@ -30,111 +54,197 @@ fn command_of(word: &[u8]) -> Command {
     if text::same_bytes(word, b"trace") {
         return Command::Trace;
     }
-    if text::same_bytes(word, b"help") {
+    if text::same_bytes(word, b"graph") {
+        return Command::Graph;
+    }
+    if text::same_bytes(word, b"--version") {
+        return Command::Version;
+    }
+    if is_help(word) {
         return Command::Help;
     }
     Command::Unknown
 }
 
-fn check_text(name: &[u8], text: &[u8]) {
+fn check_text(out: &mut bool, name: &[u8], text: &[u8]) {
     let mut words = [0u64; 4864];
     let mut bytes = [0u8; 16384];
     match classad::read(text, &mut words, &mut bytes) {
-        Answer::Accepted(d, n) => lines::accepted(name, d, n),
-        Answer::Refused(k, p) => lines::refused(name, text, k, p),
+        Answer::Accepted(d, n) => lines::accepted(out, name, d, n),
+        Answer::Refused(k, p) => lines::refused(out, name, text, k, p),
     }
 }
 
-fn check_file(i: usize) {
+fn check_file(out: &mut bool, i: usize) {
     let mut name = io::large_buffer();
     let n = os::arg(i, &mut name);
     let mut text = [0u8; 16385];
     let Input::Text(k) = input::read_file(&name[..n], &mut text) else {
         return;
     };
-    check_text(&name[..n], ad::part(&text, 0, k));
+    check_text(out, &name[..n], ad::part(&text, 0, k));
 }
 
-fn check_files(count: usize) {
+// Once standard output is lost, nothing is said of the files that are left, not even that one cannot be read.
+fn check_files(out: &mut bool, count: usize) {
     let mut i = 2;
     while i < count {
-        check_file(i);
+        if !*out {
+            return;
+        }
+        check_file(out, i);
         i += 1;
     }
 }
 
-fn print_stored(name: &[u8], words: &[u64], bytes: &[u8]) {
-    let mut out = [0u8; 16384];
-    match classad::print(words, bytes, &mut out) {
+fn print_stored(out: &mut bool, name: &[u8], words: &[u64], bytes: &[u8]) {
+    let mut text = [0u8; 16384];
+    match classad::print(words, bytes, &mut text) {
         Printed::Text(n) => {
-            lines::say(ad::part(&out, 0, n));
-            lines::say(b"\n");
+            lines::say(out, ad::part(&text, 0, n));
+            lines::say(out, b"\n");
         }
-        Printed::Refused(k, p) => lines::refused(name, b"", k, p),
+        Printed::Refused(k, p) => lines::refused(out, name, b"", k, p),
     }
 }
 
-fn print_text(name: &[u8], text: &[u8]) {
+fn print_text(out: &mut bool, name: &[u8], text: &[u8]) {
     let mut words = [0u64; 4864];
     let mut bytes = [0u8; 16384];
     match classad::read(text, &mut words, &mut bytes) {
-        Answer::Accepted(_, _) => print_stored(name, &words, &bytes),
-        Answer::Refused(k, p) => lines::refused(name, text, k, p),
+        Answer::Accepted(_, _) => print_stored(out, name, &words, &bytes),
+        Answer::Refused(k, p) => lines::refused(out, name, text, k, p),
     }
 }
 
-fn print_file() {
+fn print_file(out: &mut bool) {
     let mut name = io::large_buffer();
     let n = os::arg(2, &mut name);
     let mut text = [0u8; 16385];
     let Input::Text(k) = input::read_file(&name[..n], &mut text) else {
         return;
     };
-    print_text(&name[..n], ad::part(&text, 0, k));
+    print_text(out, &name[..n], ad::part(&text, 0, k));
 }
 
 // Matches two stored ads, and shows each entry of the list where `trace` asks for it.
-fn match_stored<'a>(v: &[u64], b: &'a [u8], w: &[u64], c: &'a [u8], trace: bool, budget: u16) {
+fn match_stored<'a>(
+    out: &mut bool,
+    first: &[u64; 4864],
+    first_bytes: &'a [u8],
+    second: &[u64; 4864],
+    second_bytes: &'a [u8],
+    trace: bool,
+    budget: u16,
+) {
     let mut table = [0u64; 4096];
     let mut list = [0u64; 2048];
-    let outcome = classad::match_ads(v, b, w, c, &mut table, &mut list, budget);
+    let outcome = classad::match_ads(
+        first,
+        first_bytes,
+        second,
+        second_bytes,
+        &mut table,
+        &mut list,
+        budget,
+    );
     if trace {
-        shown::entries(v, b, w, c, &table, &list);
+        shown::entries(out, first, first_bytes, second, second_bytes, &table, &list);
     }
-    lines::outcome(outcome, shown::entry_count(&list));
+    verdict::outcome(
+        out,
+        outcome,
+        first,
+        first_bytes,
+        second,
+        second_bytes,
+        &table,
+        shown::entry_count(&list),
+    );
+}
+
+fn graph_stored(
+    out: &mut bool,
+    first: &[u64; 4864],
+    first_bytes: &[u8],
+    second: &[u64; 4864],
+    second_bytes: &[u8],
+) {
+    let mut flags = [0usize; 2048];
+    let mut list = [0u64; 2048];
+    let order = classad::order_ads(
+        first,
+        first_bytes,
+        second,
+        second_bytes,
+        &mut flags,
+        &mut list,
+    );
+    match order {
+        Order::Refused(k, p) => lines::refused(out, b"graph", b"", k, p),
+        Order::Found(_, _) => {
+            drawing::draw(out, first, first_bytes, second, second_bytes, &flags)
+        }
+    }
 }
 
 // Whether a text was refused, which is then said.
-fn is_refused(name: &[u8], text: &[u8], answer: Answer) -> bool {
+fn is_refused(out: &mut bool, name: &[u8], text: &[u8], answer: Answer) -> bool {
     match answer {
         Answer::Accepted(_, _) => false,
         Answer::Refused(k, p) => {
-            lines::refused(name, text, k, p);
+            lines::refused(out, name, text, k, p);
             true
         }
     }
 }
 
-fn match_texts(first: &[u8], s: &[u8], second: &[u8], t: &[u8], trace: bool, budget: u16) {
-    let mut v = [0u64; 4864];
-    let mut b = [0u8; 16384];
-    let mut w = [0u64; 4864];
-    let mut c = [0u8; 16384];
-    let x = classad::read(s, &mut v, &mut b);
-    let y = classad::read(t, &mut w, &mut c);
-    let p = is_refused(first, s, x);
-    let q = is_refused(second, t, y);
+fn do_task<'a>(
+    out: &mut bool,
+    task: Task,
+    first: &[u64; 4864],
+    first_bytes: &'a [u8],
+    second: &[u64; 4864],
+    second_bytes: &'a [u8],
+) {
+    match task {
+        Task::Match(budget) => {
+            match_stored(out, first, first_bytes, second, second_bytes, false, budget)
+        }
+        Task::Trace(budget) => {
+            match_stored(out, first, first_bytes, second, second_bytes, true, budget)
+        }
+        Task::Graph => graph_stored(out, first, first_bytes, second, second_bytes),
+    }
+}
+
+fn pair_texts(
+    out: &mut bool,
+    task: Task,
+    first_name: &[u8],
+    first_text: &[u8],
+    second_name: &[u8],
+    second_text: &[u8],
+) {
+    let mut first = [0u64; 4864];
+    let mut first_bytes = [0u8; 16384];
+    let mut second = [0u64; 4864];
+    let mut second_bytes = [0u8; 16384];
+    let x = classad::read(first_text, &mut first, &mut first_bytes);
+    let y = classad::read(second_text, &mut second, &mut second_bytes);
+    let p = is_refused(out, first_name, first_text, x);
+    let q = is_refused(out, second_name, second_text, y);
     if p {
         return;
     }
     if q {
         return;
     }
-    match_stored(&v, &b, &w, &c, trace, budget);
+    do_task(out, task, &first, &first_bytes, &second, &second_bytes);
 }
 
 // Both files are read before anything is said of either.
-fn match_files(trace: bool, budget: u16) {
+fn pair_files(out: &mut bool, task: Task) {
     let mut first = io::large_buffer();
     let m = os::arg(2, &mut first);
     let mut second = io::large_buffer();
@@ -149,73 +259,95 @@ fn match_files(trace: bool, budget: u16) {
     let Input::Text(j) = q else {
         return;
     };
-    match_texts(
+    pair_texts(
+        out,
+        task,
         &first[..m],
         ad::part(&s, 0, i),
         &second[..n],
         ad::part(&t, 0, j),
-        trace,
-        budget,
     );
 }
 
-fn match_command(count: usize, trace: bool) {
+fn match_task(trace: bool, budget: u16) -> Task {
+    if trace {
+        return Task::Trace(budget);
+    }
+    Task::Match(budget)
+}
+
+fn match_command(out: &mut bool, count: usize, trace: bool) {
     if input::inputs(2, 4) > 1 {
-        lines::usage(libc::STDERR_FILENO);
+        lines::usage(out, true);
         return;
     }
     if count == 4 {
-        match_files(trace, 65535);
+        pair_files(out, match_task(trace, 65535));
         return;
     }
     if count != 5 {
-        lines::usage(libc::STDERR_FILENO);
+        lines::usage(out, true);
         return;
     }
     match input::budget_argument(4) {
-        Budget::Steps(n) => match_files(trace, n),
-        Budget::Bad => lines::usage(libc::STDERR_FILENO),
+        Budget::Steps(n) => pair_files(out, match_task(trace, n)),
+        Budget::Bad => lines::usage(out, true),
     }
 }
 
-fn check_command(count: usize) {
+fn graph_command(out: &mut bool, count: usize) {
+    if count != 4 {
+        lines::usage(out, true);
+        return;
+    }
+    if input::inputs(2, 4) > 1 {
+        lines::usage(out, true);
+        return;
+    }
+    pair_files(out, Task::Graph);
+}
+
+fn check_command(out: &mut bool, count: usize) {
     if count < 3 {
-        lines::usage(libc::STDERR_FILENO);
+        lines::usage(out, true);
         return;
     }
     if input::inputs(2, count) > 1 {
-        lines::usage(libc::STDERR_FILENO);
+        lines::usage(out, true);
         return;
     }
-    check_files(count);
+    check_files(out, count);
 }
 
-fn print_command(count: usize) {
+fn print_command(out: &mut bool, count: usize) {
     if count == 3 {
-        print_file();
+        print_file(out);
         return;
     }
-    lines::usage(libc::STDERR_FILENO);
+    lines::usage(out, true);
 }
 
-fn help_command(count: usize) {
+fn version_command(out: &mut bool, count: usize) {
     if count == 2 {
-        lines::usage(libc::STDOUT_FILENO);
+        lines::version(out);
         return;
     }
-    lines::usage(libc::STDERR_FILENO);
+    lines::usage(out, true);
 }
 
 fn main() {
-    let mut word = [0u8; 8];
+    let mut word = [0u8; 16];
     let n = os::arg(1, &mut word);
     let count = os::arg_count();
+    let mut out = true;
     match command_of(ad::part(&word, 0, n)) {
-        Command::Check => check_command(count),
-        Command::Print => print_command(count),
-        Command::Match => match_command(count, false),
-        Command::Trace => match_command(count, true),
-        Command::Help => help_command(count),
-        Command::Unknown => lines::usage(libc::STDERR_FILENO),
+        Command::Check => check_command(&mut out, count),
+        Command::Print => print_command(&mut out, count),
+        Command::Match => match_command(&mut out, count, false),
+        Command::Trace => match_command(&mut out, count, true),
+        Command::Graph => graph_command(&mut out, count),
+        Command::Help => lines::usage(&mut out, count != 2),
+        Command::Version => version_command(&mut out, count),
+        Command::Unknown => lines::usage(&mut out, true),
     }
 }

@@ -17,154 +17,183 @@ pub fn entry_count(list: &[u64]) -> usize {
     n
 }
 
+pub fn side(out: &mut bool, second: bool) {
+    if second {
+        say(out, b"second");
+        return;
+    }
+    say(out, b"first");
+}
+
 // The definition that a node belongs to, and its expression.
-fn node_line(words: &[u64], bytes: &[u8], node: usize) {
-    say(classad::definition_name(words, bytes, node));
-    say(b": ");
-    let mut out = [0u8; 16384];
-    match classad::expression(words, bytes, node, &mut out) {
-        Printed::Text(n) => say(ad::part(&out, 0, n)),
-        Printed::Refused(_, _) => say(b"(printed text over 16,384 bytes)"),
+fn node_line(out: &mut bool, words: &[u64], bytes: &[u8], node: usize) {
+    say(out, classad::definition_name(words, bytes, node));
+    say(out, b": ");
+    let mut text = [0u8; 16384];
+    match classad::expression(words, bytes, node, &mut text) {
+        Printed::Text(n) => say(out, ad::part(&text, 0, n)),
+        Printed::Refused(_, _) => say(out, b"(printed text over 16,384 bytes)"),
     }
 }
 
-fn integer(x: u32) {
+fn integer(out: &mut bool, x: u32) {
     if x < 0x8000_0000 {
-        number(x as u64);
+        number(out, x as u64);
         return;
     }
-    say(b"-");
-    number(0x1_0000_0000 - x as u64);
+    say(out, b"-");
+    number(out, 0x1_0000_0000 - x as u64);
 }
 
-fn boolean(b: bool) {
+fn boolean(out: &mut bool, b: bool) {
     if b {
-        say(b"true");
+        say(out, b"true");
         return;
     }
-    say(b"false");
+    say(out, b"false");
 }
 
-fn escaped(b: u8) {
+fn escaped(out: &mut bool, b: u8) {
     match b {
-        34 => say(b"\\\""),
-        92 => say(b"\\\\"),
-        10 => say(b"\\n"),
-        9 => say(b"\\t"),
-        _ => say(&[b]),
+        b'"' => say(out, b"\\\""),
+        b'\\' => say(out, b"\\\\"),
+        b'\n' => say(out, b"\\n"),
+        b'\t' => say(out, b"\\t"),
+        _ => say(out, &[b]),
     }
 }
 
-fn string(s: &[u8]) {
-    say(b"\"");
+fn string(out: &mut bool, bytes: &[u8]) {
+    say(out, b"\"");
     let mut i = 0;
-    while i < s.len() {
-        escaped(s[i]);
+    while i < bytes.len() {
+        escaped(out, bytes[i]);
         i += 1;
     }
-    say(b"\"");
+    say(out, b"\"");
 }
 
 // Some digits, one at least.
-fn digits(d: &[u8], from: usize, end: usize) {
+fn digits(out: &mut bool, decimal: &[u8], from: usize, end: usize) {
     if from < end {
-        say(ad::part(d, from, end - from));
+        say(out, ad::part(decimal, from, end - from));
         return;
     }
-    say(b"0");
+    say(out, b"0");
 }
 
-fn exponent(first: usize) {
-    say(b"e");
+fn exponent(out: &mut bool, first: usize) {
+    say(out, b"e");
     if first < decimals::POINT {
-        number((decimals::POINT - 1 - first) as u64);
+        number(out, (decimals::POINT - 1 - first) as u64);
         return;
     }
-    say(b"-");
-    number((first - decimals::POINT) as u64 + 1);
+    say(out, b"-");
+    number(out, (first - decimals::POINT) as u64 + 1);
 }
 
 // Plain where the first digit stands from 16 places before the point to 5 behind it, else with an exponent.
-fn finite(bits: u64) {
+fn finite(out: &mut bool, bits: u64) {
     let mut d = [0u8; 1408];
     let s = decimals::put_decimal(bits, &mut d);
     if s.first < decimals::POINT - 16 {
-        digits(&d, s.first, s.first + 1);
-        say(b".");
-        digits(&d, s.first + 1, s.last);
-        exponent(s.first);
+        digits(out, &d, s.first, s.first + 1);
+        say(out, b".");
+        digits(out, &d, s.first + 1, s.last);
+        exponent(out, s.first);
         return;
     }
     if decimals::POINT + 4 < s.first {
-        digits(&d, s.first, s.first + 1);
-        say(b".");
-        digits(&d, s.first + 1, s.last);
-        exponent(s.first);
+        digits(out, &d, s.first, s.first + 1);
+        say(out, b".");
+        digits(out, &d, s.first + 1, s.last);
+        exponent(out, s.first);
         return;
     }
-    digits(&d, s.first, decimals::POINT);
-    say(b".");
-    digits(&d, decimals::POINT, s.last);
+    digits(out, &d, s.first, decimals::POINT);
+    say(out, b".");
+    digits(out, &d, decimals::POINT, s.last);
 }
 
-fn real(bits: u64) {
+fn real(out: &mut bool, bits: u64) {
     let size = bits % 0x8000_0000_0000_0000;
     if 0x7FF0_0000_0000_0000 < size {
-        say(b"not-a-number");
+        say(out, b"not-a-number");
         return;
     }
     if bits != size {
-        say(b"-");
+        say(out, b"-");
     }
     if size == 0x7FF0_0000_0000_0000 {
-        say(b"infinity");
+        say(out, b"infinity");
         return;
     }
     if size == 0 {
-        say(b"0.0");
+        say(out, b"0.0");
         return;
     }
-    finite(size);
+    finite(out, size);
 }
 
-fn value<'a>(v: Value, b: &'a [u8], c: &'a [u8]) {
+fn value<'a>(out: &mut bool, v: Value, first_bytes: &'a [u8], second_bytes: &'a [u8]) {
     match v {
-        Value::Undefined => say(b"undefined"),
-        Value::Error => say(b"error"),
-        Value::Boolean(x) => boolean(x),
-        Value::Integer(x) => integer(x),
-        Value::Real(x) => real(slots::bits_of(x)),
+        Value::Undefined => say(out, b"undefined"),
+        Value::Error => say(out, b"error"),
+        Value::Boolean(x) => boolean(out, x),
+        Value::Integer(x) => integer(out, x),
+        Value::Real(x) => real(out, slots::bits_of(x)),
         Value::String(side, offset, length) => {
-            string(classad::string_bytes(b, c, side, offset, length))
+            string(
+                out,
+                classad::string_bytes(first_bytes, second_bytes, side, offset, length),
+            )
         }
     }
 }
 
-fn slot<'a>(s: Slot, b: &'a [u8], c: &'a [u8]) {
+pub fn slot<'a>(out: &mut bool, s: Slot, first_bytes: &'a [u8], second_bytes: &'a [u8]) {
     match s {
-        Slot::Blank => say(b"blank"),
-        Slot::Held(v) => value(v, b, c),
+        Slot::Blank => say(out, b"blank"),
+        Slot::Held(v) => value(out, v, first_bytes, second_bytes),
     }
 }
 
 // One entry, 1,024 · side + node, the k-th of the list.
-fn entry<'a>(v: &[u64], b: &'a [u8], w: &[u64], c: &'a [u8], table: &[u64], k: usize, place: u64) {
+fn entry<'a>(
+    out: &mut bool,
+    first: &[u64],
+    first_bytes: &'a [u8],
+    second: &[u64],
+    second_bytes: &'a [u8],
+    table: &[u64],
+    k: usize,
+    place: u64,
+) {
     let node = (place % 1024) as usize;
-    let second = 1024 <= place;
-    number(k as u64);
-    if second {
-        say(b" second ");
-        node_line(w, c, node);
+    let far = 1024 <= place;
+    number(out, k as u64);
+    if far {
+        say(out, b" second ");
+        node_line(out, second, second_bytes, node);
     } else {
-        say(b" first ");
-        node_line(v, b, node);
+        say(out, b" first ");
+        node_line(out, first, first_bytes, node);
     }
-    say(b" -> ");
-    slot(classad::value_at(table, second, node), b, c);
-    say(b"\n");
+    say(out, b" -> ");
+    let s = classad::value_at(table, far, node);
+    slot(out, s, first_bytes, second_bytes);
+    say(out, b"\n");
 }
 
-pub fn entries<'a>(v: &[u64], b: &'a [u8], w: &[u64], c: &'a [u8], table: &[u64], list: &[u64]) {
+pub fn entries<'a>(
+    out: &mut bool,
+    first: &[u64],
+    first_bytes: &'a [u8],
+    second: &[u64],
+    second_bytes: &'a [u8],
+    table: &[u64],
+    list: &[u64],
+) {
     let mut i = 0;
     while i < list.len() {
         let e = list[i];
@@ -172,6 +201,15 @@ pub fn entries<'a>(v: &[u64], b: &'a [u8], w: &[u64], c: &'a [u8], table: &[u64]
             return;
         }
         i += 1;
-        entry(v, b, w, c, table, i, e - 1);
+        entry(
+            out,
+            first,
+            first_bytes,
+            second,
+            second_bytes,
+            table,
+            i,
+            e - 1,
+        );
     }
 }

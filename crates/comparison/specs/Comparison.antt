@@ -36,7 +36,7 @@ realsCompare AtMost x y = Ieee.le x y
 realsCompare Above x y = Ieee.lt y x
 realsCompare AtLeast x y = Ieee.le y x
 
--- what holds where the first string is less, the same or greater: for 'Strings compare by bytes after ASCII lower case'
+-- what holds where the first string is less, the same or greater
 abbrev pub byOrder : Bool → Bool → Bool → Order → Bool
 byOrder l s g Less = l
 byOrder l s g Same = s

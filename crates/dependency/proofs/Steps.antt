@@ -12,15 +12,23 @@ use Rattle.ad.specs.Stored.{nodeCount}
 use Rattle.links.specs.Pair.{pairGraph, Measured, Stands}
 use Rattle.links.specs.Laws.Soundness.{pair-sound}
 use Rattle.graph.specs.Members.{numbers, raised}
-use Rattle.marks.specs.Memory.{markAt, AtNode, AtSeek, AtLoopLink, AtLoopLast, AtStart, AtLink, AtLast, Grows}
+use Rattle.marks.specs.Inner.Memory.{markAt, marksRoom, AtNode, AtSeek, AtLoopLink, AtLoopLast, AtClose, AtStart, AtLink, AtLast, Grows}
 use Rattle.links.specs.Laws.Numbering.{pair-size, stands-small, nodes-fit, needed-in, needed-next}
 
 pub kept-grows : {len len′ : ℕ} (ls : List ℕ) → len′ ≡ len → Grows len len′ ls ls
 kept-grows ls e = record { longer = omega arith; fits = λ h. omega arith; behind = λ i h. refl }
 
--- a node's place in a slice of marks
+-- a slot's place in a slice of marks
+pub small-in : {x n : ℕ} → x < 2048 → 2048 ≤ n → x < n
+small-in h k = omega arith
+
+-- a node's place there
 pub stands-in : (v w : List ℕ) (x : ℕ) {n : ℕ} → Stands v w x → 2048 ≤ n → x < n
 stands-in v w x s h = let a = stands-small v w x s in omega arith
+
+slots-are : (v b w c : List ℕ) → pairGraph v b w c .slots ≡ marksRoom
+unfolding pairGraph
+slots-are v b w c = refl
 
 module _ {v w : List ℕ} {n d n′ d′ : ℕ} (p : Measured v n d) (q : Measured w n′ d′) where
   -- the numbers of the nodes
@@ -46,9 +54,12 @@ module _ {v w : List ℕ} {n d n′ d′ : ℕ} (p : Measured v n d) (q : Measur
   pub step-seek : (b c : List ℕ) {k y : ℕ} → y ≡ cond (ltb k n) k (1024 + (k - n)) → AtSeek (pairGraph v b w c) k (n + n′) y
   step-seek b c {k} e = record { size-is = size-is b c; node-is = nth-is b c k e }
 
+  pub step-close : (b c : List ℕ) → AtClose (pairGraph v b w c) (n + n′)
+  step-close b c = record { size-is = size-is b c; slots-are = slots-are v b w c }
+
   pub step-loop-last : (b c : List ℕ) {x dd i : ℕ} {ta ma : List ℕ} → dd ≡ length (led (pairGraph v b w c) (numbers ta) x) → i ≡ markAt ma 2 x → dd ≤ i →
       AtLoopLast (pairGraph v b w c) (n + n′) x ta ma
-  step-loop-last b c de ie h = record { size-is = size-is b c; over = omega arith }
+  step-loop-last b c de ie h = record { size-is = size-is b c; slots-are = slots-are v b w c; over = omega arith }
 
 module _ (v b w c : List ℕ) where
   pub step-loop-link : {x y i dd : ℕ} {refers : Bool} {ta ma : List ℕ} → dd ≡ length (led (pairGraph v b w c) (numbers ta) x) → i ≡ markAt ma 2 x → i < dd →
@@ -70,4 +81,4 @@ module _ (v b w c : List ℕ) where
     step-link {y} h ye = record { index-is = ie; more = within h; next-is = needed-next (pairGraph v b w c) x i y ta fl (within h) ye }
 
     pub step-last : {f : ℕ} → dd ≤ i → f ≡ markAt ma 1 x → AtLast (pairGraph v b w c) x f ta ma fl
-    step-last h fe = record { over = omega arith; from-is = fe }
+    step-last h fe = record { slots-are = slots-are v b w c; over = omega arith; from-is = fe }

@@ -1,6 +1,6 @@
 -- The loop of the traversal: what holds before each transition, and what is then asked and had. Assumes nothing.
 use mathlib.Core.Path.{_≡_, refl, sym, ap, _∙_, subst, fun-ext}
-use mathlib.Core.Logic.{_≢_, inl, inr}
+use mathlib.Core.Logic.{_≢_, _⊎_, inl, inr}
 use mathlib.Core.Bool.{Bool, true, false, cond}
 use mathlib.Core.List.{List, [], _∷_, _++_, map}
 use Prim.Native.Nat.{ℕ, zero, suc, _+_, _-_, _*_, _≤_, _<_}
@@ -11,26 +11,28 @@ use lib.Dec.{eqb, ltb, leb}
 use borrow.Author.Tests.{leb-true, leb-false}
 use Rattle.graph.specs.Laws.Members.{ltb-yes}
 use Rattle.graph.specs.Graph.{Graph, Sound}
-use Rattle.graph.specs.Transition.{State, searches, led, recordedAs, marked, searchedTo, resolvedTo, transition, transitions, first}
+use Rattle.graph.specs.Transition.{State, searches, led, named, marked, searchedTo, resolvedTo, transition, transitions, first}
 use Rattle.graph.specs.Laws.Traversal.{Ends, traverse, within-square}
-use Rattle.graph.specs.Laws.Progress.{PlaceOK, Valid, valid-transitions, valid-first, transitions-suc, total, before-end, over-at, room-at, taken, pending, Awake, awake-next}
-use Rattle.graph.specs.Laws.Numbers.{PlaceSmall, small-first}
+use Rattle.graph.specs.Laws.Progress.{transitions-suc, total, before-end, over-at, room-at, taken, pending, Awake, awake-next}
+use Rattle.graph.specs.Laws.Range.{InRange, Ranged, slotted, ranged-transitions, ranged-first}
+use Rattle.graph.specs.Laws.Numbers.{Small, small-transitions, small-first}
 use Rattle.graph.specs.Laws.Transitions.{state-eq}
 use Rattle.graph.specs.declared.Place.{Place}
 use Rattle.graph.specs.declared.Place.the-variants.{Resolving, Starting, Searching, Closing, Between, Inside}
 use Rattle.links.specs.Pair.{pairGraph, Measured}
 use Rattle.links.specs.Laws.Soundness.{pair-sound}
 use Rattle.links.specs.Laws.Numbering.{pair-size}
-use Rattle.marks.specs.Memory.{view, marksRoom, markWords, Clear, Roomy, Grows}
+use Rattle.marks.specs.Inner.Memory.{view, marksRoom, markWords, Clear, Roomy, Grows}
 use Rattle.dependency.specs.Traversal.{endedAt, PlaceFits, FlaggedFrom, Ready, Traversed}
 use Rattle.dependency.specs.Laws.Use.{clear-zeros}
+use Rattle.dependency.specs.Laws.Next.{slots-fit, place-fits}
 use Rattle.dependency.proofs.Steps.{nodes-few, size-is}
 
 -- a mark within the slots is what it records
 recorded-is :
-    (H : Graph) (t : ℕ) (l : List ℕ) → ((y : ℕ) → t ≡ suc y → y < H .slots) → recordedAs H t ≡ l → t
+    (H : Graph) (t : ℕ) (l : List ℕ) → ((y : ℕ) → t ≡ suc y → y < H .slots) → named H t ≡ l → t
     ≡ marked l
-unfolding recordedAs
+unfolding named
 recorded-is H zero l h e = ap marked e
 recorded-is H (suc y) l h e = ap marked (rw (ltb-yes (h y refl)) at e)
 
@@ -104,15 +106,17 @@ module _ (G : Graph) (S : Sound G) where
     unfolding view
     place-is = ap (λ (s : State). s .place) (t .is)
 
-    valid : Valid G S (view pl len ta ma fl ls)
-    valid = subst (λ (s : State). Valid G S s) (sym (t .is)) (valid-transitions G S count (first G) (valid-first G S))
+    ranged : Ranged G (slotted S) (view pl len ta ma fl ls)
+    ranged = subst (λ (s : State). Ranged G (slotted S) s) (sym (t .is)) (ranged-transitions G (slotted S) count (first G) (ranged-first G (slotted S)))
 
-    pub place-ok : PlaceOK G S pl
+    pub in-range : InRange G pl
     unfolding view
-    place-ok = valid .place-ok
+    in-range = ranged .place-in
 
-    pub place-small : PlaceSmall count pl
-    place-small = subst (PlaceSmall count) (sym place-is) (small-first G count .place-small)
+    pub small : G .slots ≤ 65534 → Small G 65534 (view pl len ta ma fl ls)
+    small m =
+        let o = slotted S in
+        subst (λ (s : State). Small G 65534 s) (sym (t .is)) (small-transitions G o 65534 m count (first G) (ranged-first G o .place-in) (small-first G o 65534 m))
 
     -- the list has room for the node that it waits for
     pub room-in : (k x : ℕ) → pl ≡ Inside k x → G .size ≤ marksRoom → len < length ls
@@ -160,7 +164,7 @@ module _ (G : Graph) (S : Sound G) where
             bits = flagged-bits pl fl fl′ (t .bits) fe;
           }
 
-      ended-place : (u : Place) → PlaceOK G S u → endedAt u n ≡ true → u ≡ Between (searches G)
+      ended-place : (u : Place) → InRange G u → endedAt u n ≡ true → u ≡ Between (searches G)
       ended-place (Resolving i) o h = absurd (never h)
       ended-place (Starting k) o h = absurd (never h)
       ended-place (Searching k x top high low) o h = absurd (never h)
@@ -186,7 +190,7 @@ module _ (G : Graph) (S : Sound G) where
       pub going-end : endedAt pl n ≡ true → Traversed G count len ta fl ls
       unfolding view led
       going-end h =
-          let pe : pl ≡ Between (searches G) = ended-place pl place-ok h in
+          let pe : pl ≡ Between (searches G) = ended-place pl in-range h in
           let en : Ends G S (view pl len ta ma fl ls) = subst (λ (s : State). Ends G S s) (sym (t .is)) (over-at G S count (t .most) (sym place-is ∙ pe)) in
           let li : count ≤ 16 * G .size = let a = t .most in let z = (traverse G S) .small in omega arith in
           record {
@@ -195,7 +199,7 @@ module _ (G : Graph) (S : Sound G) where
             exact = t .awake;
             linear = li;
             small = within-square G S count li;
-            resolved = λ x r. recorded-is G (getD ta x 0) (G .links x) (λ y e. S .in-slots y (valid .target-ok x y e)) (sym (rw r refl) ∙ en .resolved x);
+            resolved = λ x r. recorded-is G (getD ta x 0) (G .links x) (ranged .targets-in x) (sym (rw r refl) ∙ en .resolved x);
             circular = en .flagged;
             bits = t .bits;
             order = en .order;
@@ -256,21 +260,19 @@ module _ {v b w c roots : List ℕ} {nv dv nw dw n count : ℕ} {pl : Place} {le
   pub turn-count : r ≡ false → count < 32768
   turn-count h = let a = turn-small h in let s = size-small in omega arith
 
-  fits-at : (u : Place) → pl ≡ u → r ≡ false → PlaceOK (pairGraph v b w c) S u → PlaceSmall count u → endedAt u n ≡ false → PlaceFits v w (length roots) len ls u
-  unfolding pairGraph
-  fits-at (Resolving i) q h o s k = o
-  fits-at (Starting i) q h o s k = o
-  fits-at (Searching i x top high low) q h o s k = let m = turn-count h in let a = s .0 in let d = s .1 in (o .0, o .1, o .2, omega arith, omega arith)
-  fits-at (Closing i x top high) q h o s k = o
-  fits-at (Between i) q h o s k = let a : i < n = leb-false _ _ k in let d = t .searches-are in omega arith
-  fits-at (Inside i x) q h o s k =
-      let a : i < searches (pairGraph v b w c) = o .1 in
-      let d = all-searches in
-      let f = t .searches-are in
-      (o .0, omega arith, room-in (pairGraph v b w c) S (t .going) i x q size-small)
-
   pub turn-fits : r ≡ false → PlaceFits v w (length roots) len ls pl
-  turn-fits h = fits-at pl refl h (place-ok (pairGraph v b w c) S (t .going)) (place-small (pairGraph v b w c) S (t .going)) (sym e ∙ h)
+  unfolding view
+  turn-fits h =
+      go (place-fits v b w c _ len ls pl (in-range (pairGraph v b w c) S (t .going)) (small (pairGraph v b w c) S (t .going) (slots-fit v b w c) .place-small)
+      (λ k x q. room-in (pairGraph v b w c) S (t .going) k x q size-small))
+    where
+      go : (pl ≡ Between (searches (pairGraph v b w c))) ⊎ PlaceFits v w (searches (pairGraph v b w c)) len ls pl → PlaceFits v w (length roots) len ls pl
+      go (inl q) =
+          let a : leb n (searches (pairGraph v b w c)) ≡ false = ap (λ (u : Place). endedAt u n) (sym q) ∙ sym e ∙ h in
+          let k : searches (pairGraph v b w c) < n = leb-false _ _ a in
+          let d = all-searches in
+          absurd (let z : ⊥ = omega arith in z)
+      go (inr f) = subst (λ (m : ℕ). PlaceFits v w m len ls pl) (sym all-searches ∙ t .searches-are) f
 
   pub turn-next : {pl′ : Place} {len′ : ℕ} {ta′ ma′ fl′ ls′ : List ℕ} → r ≡ false →
       (view pl′ len′ ta′ ma′ fl′ ls′ ≡ transition (pairGraph v b w c) (view pl len ta ma fl ls)) × (Grows len len′ ls ls′ × FlaggedFrom pl fl fl′) →

@@ -1,2 +1,3 @@
 -- What is proved of the definitions; a reader of the specification may pass these modules over.
 pub mod Use
+pub mod Next

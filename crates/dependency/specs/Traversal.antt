@@ -11,8 +11,8 @@ use Rattle.graph.specs.Transition.{searches, marked, transitions, first, Ended}
 use Rattle.graph.specs.declared.Place.{Place}
 use Rattle.graph.specs.declared.Place.the-variants.{Resolving, Starting, Searching, Closing, Between, Inside}
 use Rattle.ad.specs.Stored.{nodeCount}
-use Rattle.links.specs.Pair.{Formed, Stands}
-use Rattle.marks.specs.Memory.{view, marksRoom, Clear, Flagged}
+use Rattle.links.specs.Pair.{Formed}
+use Rattle.marks.specs.Inner.Memory.{view, marksRoom, Clear, Flagged}
 
 -- 'clear marks and an empty list', for two well-formed ads; the other marks are the traversal's own
 pub record Ready (v w target flag list : List ℕ) : Type 0 where
@@ -48,15 +48,16 @@ pub record Traversed (G : Graph) (count len : ℕ) (target flag list : List ℕ)
   -- the whole list, each entry one more than its node, then zeros
   pub written : list ≡ map suc order ++ replicate (length list - length order) 0
 
--- What one transition of a pair asks of its place, of n list searches in all, and that the list is not full where an entry may be
--- written. It asks nothing of what the marks hold: 'each with a contract of its own over any marks, right or wrong'
+-- What one transition of a pair asks of its place, of n list searches in all: that its nodes are slots, whether a node stands there
+-- or not, and that the list is not full where an entry may be written. It asks nothing of what the marks hold: 'each with a contract
+-- of its own over any marks, right or wrong'
 abbrev pub PlaceFits : (v w : List ℕ) → (n len : ℕ) → (list : List ℕ) → Place → Type 0
 PlaceFits v w n len list (Resolving i) = i < nodeCount v + nodeCount w
 PlaceFits v w n len list (Starting k) = k < nodeCount v + nodeCount w
-PlaceFits v w n len list (Searching k x top high low) = Stands v w x × Stands v w top × (k < nodeCount v + nodeCount w) × (high < 65535) × (low < 65536)
-PlaceFits v w n len list (Closing k x top high) = Stands v w x × Stands v w top × (k < nodeCount v + nodeCount w)
+PlaceFits v w n len list (Searching k x top high low) = (x < marksRoom) × (top < marksRoom) × (k < nodeCount v + nodeCount w) × (high < 65535) × (low < 65536)
+PlaceFits v w n len list (Closing k x top high) = (x < marksRoom) × (top < marksRoom) × (k < nodeCount v + nodeCount w)
 PlaceFits v w n len list (Between k) = k < n
-PlaceFits v w n len list (Inside k x) = Stands v w x × (k < n) × (len < length list)
+PlaceFits v w n len list (Inside k x) = (x < marksRoom) × (k < n) × (len < length list)
 
 -- what one transition does to the flags: 'only that node's marks'
 abbrev pub FlaggedFrom : Place → List ℕ → List ℕ → Type 0

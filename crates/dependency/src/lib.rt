@@ -12,7 +12,7 @@ ghost use lib.ListN.{length, replicate};
 ghost use lib.Dec.{ltb};
 ghost use Rattle.graph.specs.declared.Place.the-variants.{Resolving, Between};
 ghost use Rattle.links.specs.Pair.{pairGraph, Measured, RootMarks, Fingerprints};
-ghost use Rattle.marks.specs.Memory.{markWords};
+ghost use Rattle.marks.specs.Inner.Memory.{markWords};
 ghost use Rattle.dependency.specs.Traversal.{endedAt, Ready, Traversed};
 
 // How many transitions the traversal took, how long the list is, and where it began.

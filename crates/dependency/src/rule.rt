@@ -9,8 +9,8 @@ ghost use lib.ListN.{length, getD};
 ghost use Rattle.graph.specs.Transition.{transition};
 ghost use Rattle.graph.specs.declared.Place.the-variants.{Resolving, Starting, Searching, Closing, Between, Inside};
 ghost use Rattle.ad.specs.Stored.{nodeCount};
-ghost use Rattle.links.specs.Pair.{pairGraph, Formed, Measured, Stands, Fingerprints};
-ghost use Rattle.marks.specs.Memory.{view, markWords, Flagged, Roomy, Grows};
+ghost use Rattle.links.specs.Pair.{pairGraph, Formed, Measured, Fingerprints};
+ghost use Rattle.marks.specs.Inner.Memory.{view, markWords, Flagged, Roomy, Grows};
 ghost use Rattle.dependency.specs.Traversal.{PlaceFits, FlaggedFrom};
 
 // The transition that resolves the node of index i.
@@ -73,7 +73,7 @@ fn searching(
     flag: &mut [usize],
 ) -> Position
     requires ads { ⌜ Measured (now v) (p .nodes) (p .definitions) × Measured (now w) (q .nodes) (q .definitions) ⌝ }
-    requires place { ⌜ Stands (now v) (now w) x × Stands (now v) (now w) top × (k < nodeCount (now v) + nodeCount (now w)) × (high < 65535) × (low < 65536) ⌝ }
+    requires place { ⌜ (x < 2048) × (top < 2048) × (k < nodeCount (now v) + nodeCount (now w)) × (high < 65535) × (low < 65536) ⌝ }
     requires room { ⌜ (2048 ≤ length (now target)) × (markWords ≤ length (now marks)) × (2048 ≤ length (now flag)) ⌝ }
     ensures { λ r. ⌜ ((b c ls : List ℕ) → view (r .place) (r .len) (now (target .entry)) (now (marks .exit)) (now (flag .exit)) ls ≡ transition (pairGraph (now (v .entry)) b (now (w .entry)) c) (view (Searching k x top high low) len (now (target .entry)) (now (marks .entry)) (now (flag .entry)) ls)) ⌝ }
     ensures kept { λ r. ⌜ r .len ≡ len ⌝ }
@@ -110,7 +110,7 @@ fn inside(
     flag: &[usize],
     list: &mut [u64],
 ) -> Position
-    requires ads { ⌜ Formed (now v) × Formed (now w) × Stands (now v) (now w) x × (k < 4) ⌝ }
+    requires ads { ⌜ Formed (now v) × Formed (now w) × (x < 2048) × (k < 4) ⌝ }
     requires room { ⌜ Roomy (now target) (now marks) (now flag) (now list) × (len < length (now list)) ⌝ }
     ensures { λ r. ⌜ ((b c : List ℕ) → view (r .place) (r .len) (now (target .entry)) (now (marks .exit)) (now (flag .entry)) (now (list .exit)) ≡ transition (pairGraph (now (v .entry)) b (now (w .entry)) c) (view (Inside k x) len (now (target .entry)) (now (marks .entry)) (now (flag .entry)) (now (list .entry)))) ⌝ }
     ensures room { λ r. ⌜ Grows len (r .len) (now (list .entry)) (now (list .exit)) ⌝ }

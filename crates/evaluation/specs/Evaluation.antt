@@ -57,7 +57,7 @@ module _ (need : ℕ → List ℕ) (rule : ℕ → List Value → Value) where
   -- THE CONTRACT OF A STEP at x, over any table: 'it puts into the node's slot what the rules make of them, and changes no other
   -- slot'. Its words, and its slots where x has one
   pub record Stepped (x : ℕ) (before after : List ℕ) : Type 0 where
-    -- all words of the table: for 'changes no other slot'
+    -- all words of the table
     pub words : after ≡ stepWords before x
     -- all slots: 'it puts into the node's slot what the rules make of them, and changes no other slot'
     pub slots : x * 2 + 1 < length before → slotAt after ≡ stepTable Held seen need rule (slotAt before) x
@@ -71,8 +71,7 @@ module _ (need : ℕ → List ℕ) (rule : ℕ → List Value → Value) where
     -- all slots: 'it makes one step for each further entry in the list's order'
     pub slots : slotAt after ≡ runFrom Held seen need rule l k budget (slotAt before)
 
--- what a step is given: two well-formed ads, a node of theirs, and its marks, whatever they hold: for 'A step .. has a contract
--- of its own: whatever values, right or wrong, the slots of the node's needs hold'
+-- what a step is given: two well-formed ads, a node of theirs, and its marks, whatever they hold
 pub record AtStep (v w target flag : List ℕ) (x : ℕ) : Type 0 where
   pub first-formed : Formed v
   pub second-formed : Formed w

@@ -16,13 +16,13 @@ use Rattle.syntax.specs.declared.Unary.{Unary}
 use Rattle.syntax.specs.declared.Unary.the-variants.{Not, Plus, Minus}
 use Rattle.syntax.specs.declared.Symbol.{Symbol}
 use Rattle.syntax.specs.declared.Symbol.the-variants.{Question, Colon, CloseParenthesis}
-use Rattle.lexer.specs.Meaning.{tokensAt}
-use Rattle.lookahead.specs.Ask.{NotToken, NotBinary, Misfit, Stands}
+use Rattle.lexer.specs.Inner.Meaning.{tokensAt}
+use Rattle.lookahead.specs.Inner.Ask.{NotToken, NotBinary, Misfit, Stands}
 use Rattle.ad.specs.Layout.{unaryKind, binaryKind, node}
-use Rattle.leaves.specs.Marks.{Mark, mark, past, Memory, memory, written, left, Inside, LeafOk}
+use Rattle.leaves.specs.Inner.Marks.{Mark, mark, past, Memory, memory, written, left, Inside, LeafOk}
 use Rattle.leaves.specs.declared.Leaf.the-variants as L
 use Rattle.leaves.proofs.Laws.{fewer-left, misfit-of, token-off}
-use Rattle.expressions.specs.Post.{Agrees, Within, ConditionalOk, BinaryOk, UnaryOk, PrimaryOk, ArmsOk, RestOk}
+use Rattle.expressions.specs.Inner.Post.{Agrees, Within, ConditionalOk, BinaryOk, UnaryOk, PrimaryOk, ArmsOk, RestOk}
 use Rattle.expressions.specs.declared.Read.{Read}
 use Rattle.expressions.specs.declared.Read.the-variants.{Done, Refused}
 use Rattle.expressions.proofs.Words.{more, restored, nodes-of, words-binary, past-binary, words-conditional, past-conditional, words-unary, past-unary}

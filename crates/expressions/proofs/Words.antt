@@ -10,7 +10,7 @@ use Rattle.syntax.specs.Tree.{Literal, undefined, error, boolean, integer, real
 use Rattle.syntax.specs.declared.Binary.{Binary}
 use Rattle.syntax.specs.declared.Unary.{Unary}
 use Rattle.ad.specs.Layout.{unaryKind, binaryKind, node, literalNode, literalBytes, exprNodes, exprBytes}
-use Rattle.leaves.specs.Marks.{Mark, mark, past, Memory, memory, written}
+use Rattle.leaves.specs.Inner.Marks.{Mark, mark, past, Memory, memory, written}
 
 length-literal : (o : ℕ) (l : Literal) → length (literalNode o l) ≡ 4
 unfolding literalNode

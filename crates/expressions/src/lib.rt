@@ -10,8 +10,8 @@ ghost use mathlib.Core.Path.{_≡_};
 ghost use Prim.Native.Nat.{_+_, _≤_, _<_};
 ghost use lib.ListN.{length};
 ghost use Rattle.ad.specs.Layout.{unaryKind, binaryKind};
-ghost use Rattle.leaves.specs.Marks.{mark, memory, Room};
-ghost use Rattle.expressions.specs.Post.{Within, ConditionalOk, BinaryOk, UnaryOk, PrimaryOk, ArmsOk, RestOk};
+ghost use Rattle.leaves.specs.Inner.Marks.{mark, memory, Room};
+ghost use Rattle.expressions.specs.Inner.Post.{Within, ConditionalOk, BinaryOk, UnaryOk, PrimaryOk, ArmsOk, RestOk};
 
 pub enum Read {
     // The place behind what was read, and how many nodes and bytes are stored then.

@@ -19,42 +19,28 @@ use Rattle.syntax.specs.declared.Symbol.the-variants.{Exclamation, Question, Co
 pub data Role : Type 0 where
   defines refers selects : Role
 
--- a Name after `[` or `;` defines, one after a point selects, and any other refers
-abbrev pub afterSymbol : Symbol → Role
-afterSymbol OpenBracket = defines
-afterSymbol Semicolon = defines
-afterSymbol Point = selects
-afterSymbol Exclamation = refers
-afterSymbol Question = refers
-afterSymbol Colon = refers
-afterSymbol OpenParenthesis = refers
-afterSymbol CloseParenthesis = refers
-afterSymbol CloseBracket = refers
-afterSymbol Assign = refers
-afterSymbol Other = refers
-afterSymbol Parent = refers
+-- of a symbol: the role of a Name after it, which defines after `[` or `;`, selects after a point and otherwise refers; and how many
+-- nodes it is, 1 for `!`, `?` and `other`
+abbrev pub symbolSays : Symbol → Role × ℕ
+symbolSays OpenBracket = (defines, 0)
+symbolSays Semicolon = (defines, 0)
+symbolSays Point = (selects, 0)
+symbolSays Exclamation = (refers, 1)
+symbolSays Question = (refers, 1)
+symbolSays Other = (refers, 1)
+symbolSays Colon = (refers, 0)
+symbolSays OpenParenthesis = (refers, 0)
+symbolSays CloseParenthesis = (refers, 0)
+symbolSays CloseBracket = (refers, 0)
+symbolSays Assign = (refers, 0)
+symbolSays Parent = (refers, 0)
 
 -- the role of a Name after a token
 abbrev pub roleAfter : Token → Role
 roleAfter (word w) = refers
 roleAfter (constant l) = refers
 roleAfter (operator j) = refers
-roleAfter (symbol s) = afterSymbol s
-
--- how many nodes a symbol is: 1 for `!`, `?` and `other`
-abbrev pub symbolNodes : Symbol → ℕ
-symbolNodes Exclamation = 1
-symbolNodes Question = 1
-symbolNodes Other = 1
-symbolNodes Colon = 0
-symbolNodes OpenParenthesis = 0
-symbolNodes CloseParenthesis = 0
-symbolNodes OpenBracket = 0
-symbolNodes CloseBracket = 0
-symbolNodes Semicolon = 0
-symbolNodes Assign = 0
-symbolNodes Point = 0
-symbolNodes Parent = 0
+roleAfter (symbol s) = symbolSays s .0
 
 -- how many nodes are counted at a token, where a Name has the role r: 'each literal, each reference (at `other` where it has one), each
 -- operator (a conditional at its `?`)'
@@ -64,7 +50,7 @@ nodesAt refers (word w) = 1
 nodesAt selects (word w) = 0
 nodesAt r (constant l) = 1
 nodesAt r (operator j) = 1
-nodesAt r (symbol s) = symbolNodes s
+nodesAt r (symbol s) = symbolSays s .1
 
 -- the name that is defined at a token, if any, where a Name has the role r: 'a definition at its name'
 abbrev pub namesAt : Role → Token → List (List ℕ)

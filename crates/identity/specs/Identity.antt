@@ -10,37 +10,29 @@ use Rattle.values.specs.declared.Value.{Value}
 use Rattle.values.specs.declared.Value.the-variants.{Undefined, Error, Boolean, Integer, Real, String}
 use Rattle.values.specs.Values.{kinds, bytesAt}
 
--- a column of another kind, where nothing is the same: for '`is`: same kind and same value'
-abbrev other : {A : Type 0} → A → Bool
-other x = false
-
--- the same for the column of Strings: for '`is`: same kind and same value'
-abbrev otherString : Bool → ℕ → ℕ → Bool
-otherString side offset length = false
-
 -- '`is`: same kind and same value': what is the same as Undefined
 abbrev pub sameUndefined : Value → Bool
-sameUndefined = kinds true false other other other otherString
+sameUndefined = kinds true false (λ x. false) (λ x. false) (λ x. false) (λ side offset length. false)
 
 -- '`is`: same kind and same value': what is the same as Error
 abbrev pub sameError : Value → Bool
-sameError = kinds false true other other other otherString
+sameError = kinds false true (λ x. false) (λ x. false) (λ x. false) (λ side offset length. false)
 
 -- '`is`: same kind and same value': what is the same as a Boolean
 abbrev pub sameBoolean : Bool → Value → Bool
-sameBoolean x = kinds false false (Bool·beq x) other other otherString
+sameBoolean x = kinds false false (Bool·beq x) (λ x. false) (λ x. false) (λ side offset length. false)
 
 -- '`is`: same kind and same value': what is the same as an Integer
 abbrev pub sameInteger : ℕ → Value → Bool
-sameInteger x = kinds false false other (eqb x) other otherString
+sameInteger x = kinds false false (λ x. false) (eqb x) (λ x. false) (λ side offset length. false)
 
 -- 'Reals numerically, so not-a-number is never itself and 0.0 is -0.0'
 abbrev pub sameReal : Float → Value → Bool
-sameReal x = kinds false false other other (Ieee.eq x) otherString
+sameReal x = kinds false false (λ x. false) (λ x. false) (Ieee.eq x) (λ side offset length. false)
 
 -- 'Strings byte for byte'
 abbrev pub sameString : List ℕ → List ℕ → List ℕ → Value → Bool
-sameString first second s = kinds false false other other other (λ side offset length. sameBytes s (bytesAt first second side offset length))
+sameString first second s = kinds false false (λ x. false) (λ x. false) (λ x. false) (λ side offset length. sameBytes s (bytesAt first second side offset length))
 
 -- '`is`: same kind and same value; Strings byte for byte; Reals numerically ..'
 abbrev pub sameValue : List ℕ → List ℕ → Value → Value → Bool

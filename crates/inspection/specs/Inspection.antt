@@ -54,7 +54,7 @@ abbrev pub owner : Ad → ℕ → Holder
 owner a i = ownerFrom 0 a i
 
 -- the first of k stored definitions, from definition j on, whose root is not below node i; none behind the last, whose name has no
--- bytes (docs/LAYOUT.md: 'Layouts are the team's, written in docs/')
+-- bytes (docs/LAYOUT.md)
 unfoldable pub holderFrom : List ℕ → ℕ → ℕ → ℕ → Holder
 holderFrom w i j zero = Nothing
 holderFrom w i j (suc k) = cond (eqb (lengthAt w j) 0) Nothing (cond (leb i (rootAt w j)) (Definition j) (holderFrom w i (suc j) k))

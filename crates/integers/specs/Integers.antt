@@ -9,12 +9,12 @@ use lib.Signed.{quotZ, remZ, ltZ}
 abbrev pub width : ℕ
 width = 32
 
--- the code of a whole number, modulo 2 ^ w: for 'wrap at 32 bits'
+-- the code of a whole number, modulo 2 ^ w
 unfoldable pub wrap : ℕ → ℤ → ℕ
 wrap w (pos n) = n % 2 ^ w
 wrap w (negsuc n) = 2 ^ w - suc (n % 2 ^ w)
 
--- the whole number of a code: the upper half of the codes stands for the negative ones: for 'wrap at 32 bits'
+-- the whole number of a code: the upper half of the codes stands for the negative ones
 unfoldable pub signed : ℕ → ℕ → ℤ
 signed w n = cond (ltb n (2 ^ (w - 1))) (pos n) (negsuc (2 ^ w - suc n))
 

@@ -16,12 +16,12 @@ use Rattle.syntax.specs.Laws.Codes.{code-same, symbol-coded, operator-low}
 use Rattle.syntax.specs.declared.Binary.{Binary}
 use Rattle.syntax.specs.declared.Symbol.{Symbol}
 use Rattle.syntax.specs.declared.Symbol.the-variants.{OpenParenthesis, CloseParenthesis, Point, Other}
-use Rattle.lexer.specs.Meaning.{tokensAt, literalOf, bytesOf, stringAt, Scanned}
+use Rattle.lexer.specs.Inner.Meaning.{tokensAt, literalOf, bytesOf, stringAt, Scanned}
 use Rattle.lexer.specs.declared.Constant.{Constant}
 use Rattle.lexer.specs.declared.Constant.the-variants as C
-use Rattle.lookahead.specs.Ask.{Stands, NotToken, NotWord, Misfit}
+use Rattle.lookahead.specs.Inner.Ask.{Stands, NotToken, NotWord, Misfit}
 use Rattle.ad.specs.Layout.{node, literalNode, literalBytes, scopeKind, exprNodes, exprBytes}
-use Rattle.leaves.specs.Marks.{Mark, mark, past, Memory, memory, written, left, Inside, StringFrom, ConstantLeaf, TextLeaf, otherAt, OtherLeaf, LeafOk, LeafWithin}
+use Rattle.leaves.specs.Inner.Marks.{Mark, mark, past, Memory, memory, written, left, Inside, StringFrom, ConstantLeaf, TextLeaf, otherAt, OtherLeaf, LeafOk, LeafWithin}
 use Rattle.leaves.specs.declared.Leaf.{Leaf}
 use Rattle.leaves.specs.declared.Leaf.the-variants.{Done, Refused, Open}
 

@@ -1,2 +1,2 @@
-pub mod Lexeme
+pub mod Inner
 pub mod Laws

@@ -21,7 +21,7 @@ use Rattle.lexer.specs.declared.Sign.{Sign}
 use Rattle.lexer.specs.declared.Sign.the-variants as G
 use Rattle.lexer.specs.declared.Token as K
 use Rattle.lexer.specs.declared.Token.the-variants as KV
-use Rattle.lexer.specs.Meaning.{Span, signFront, SignFits, SignMeans, tokensAt, placed, stringAt, Run, Fraction, valueTo, cap, AtByte, AtBackslash}
+use Rattle.lexer.specs.Inner.Meaning.{Span, signFront, SignFits, SignMeans, tokensAt, placed, stringAt, Run, Fraction, valueTo, cap, AtByte, AtBackslash}
 
 -- ---- blanks
 

@@ -8,7 +8,7 @@ ghost use Prim.Native.Nat.{_+_, _-_, _*_, _≤_, _<_, min};
 ghost use lib.ListN.{length, getD, drop, take};
 ghost use lib.Seq.{slice};
 ghost use Rattle.syntax.specs.Token.{escapeOf, numberFront, nameFront, stringOf, bodyOf, symbolIn, spellings};
-ghost use Rattle.lexer.specs.Meaning.{Skipped, Run, Fraction, AtByte, AtBackslash, AtToken, classOf, cap, valueTo, WordMeans, StepMeans, EndMeans, signFront, SignMeans, Scanned, Placed};
+ghost use Rattle.lexer.specs.Inner.Meaning.{Skipped, Run, Fraction, AtByte, AtBackslash, AtToken, classOf, cap, valueTo, WordMeans, StepMeans, EndMeans, signFront, SignMeans, Scanned, Placed};
 
 // A literal that has no bytes of its own.
 pub enum Constant {

@@ -15,10 +15,10 @@ use Rattle.syntax.specs.Bounds.{maxNodes, maxDefinitions}
 use Rattle.graph.specs.Laws.Members.{eqb-yes, eqb-no, ltb-yes, ltb-no}
 use Rattle.graph.specs.Transition.{marked}
 use Rattle.ad.specs.Stored.{leading, kindAt, lengthAt, offsetAt, rootAt, bytesAt, nodeCount, definitionCount, arity, isReference, findFrom, find}
-use Rattle.names.specs.Fingerprint.{fingerprintOf}
+use Rattle.names.specs.Inner.Fingerprint.{fingerprintOf}
 use Rattle.names.specs.Laws.Matching.{other-fingerprint}
 use Rattle.links.specs.Pair.{numbered, printAt, Formed, Fingerprints}
-use Rattle.links.specs.Filling.{Filled}
+use Rattle.links.specs.Inner.Filling.{Filled}
 use Rattle.links.specs.Laws.Counting.{leading-more, leading-stop, nodes-few, definitions-few}
 
 -- ---- kinds

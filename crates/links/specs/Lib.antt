@@ -1,3 +1,3 @@
 pub mod Pair
-pub mod Filling
+pub mod Inner
 pub mod Laws

@@ -10,7 +10,7 @@ use lib.Dec.{ltb}
 use Rattle.text.specs.Bytes.{bytes}
 use Rattle.syntax.specs.Bounds.{maxNodes, maxDefinitions}
 use Rattle.text.specs.Strings.{sameName}
-use Rattle.names.specs.Fingerprint.{fingerprintOf}
+use Rattle.names.specs.Inner.Fingerprint.{fingerprintOf}
 use Rattle.syntax.specs.Tree.{Ad, size, nodes}
 use Rattle.ad.specs.Layout.{Named, adWords, storedWords, storedBytes}
 use Rattle.graph.specs.Members.{Each}
@@ -18,29 +18,26 @@ use Rattle.graph.specs.Graph.{Graph}
 use Rattle.graph.specs.Transition.{marked}
 use Rattle.ad.specs.Stored.{kindAt, nodeCount, definitionCount, offsetAt, lengthAt, bytesAt, isOwn, isOther, isReference, operands, nameAt, rootAt, find}
 
--- A link as it is said from its own side: whether it goes to the other ad, and to which node there.
-abbrev pub Link : Type 0
-Link = Bool × ℕ
-
 -- the number of node y of the first side, or of the second: 'The two sides are distinct even if the same ad is lent twice.'
 abbrev pub numbered : Bool → ℕ → ℕ
 numbered second y = cond second (maxNodes + y) y
 
--- the number of the node to which a link goes, said from the first side, or from the second
-abbrev pub linked : Bool → Link → ℕ
+-- the number of the node that a link goes to, from the second side or the first. A link is said from its own side: whether it goes to
+-- the other ad, and to which node there
+abbrev pub linked : Bool → (Bool × ℕ) → ℕ
 linked second l = numbered (cond (l .0) (not second) second) (l .1)
 
 -- a link in its own ad, to node y
-abbrev pub inside : ℕ → Link
+abbrev pub inside : ℕ → Bool × ℕ
 inside y = (false, y)
 
 -- a link to the other ad, to node y there
-abbrev pub across : ℕ → Link
+abbrev pub across : ℕ → Bool × ℕ
 across y = (true, y)
 
 -- what node i of an ad leads to, w′ and b′ being the other ad: '`name` finds its definition in its own ad, `other.name` in the
 -- other'; 'An operator leads to all its operands .. A reference leads to its definition.'
-unfoldable pub linksFrom : List ℕ → List ℕ → List ℕ → List ℕ → ℕ → List Link
+unfoldable pub linksFrom : List ℕ → List ℕ → List ℕ → List ℕ → ℕ → List (Bool × ℕ)
 linksFrom w b w′ b′ i =
     cond (ltb i (nodeCount w))
     (cond (isOwn (kindAt w i))
@@ -88,12 +85,13 @@ definitionAt n name [] = []
 definitionAt n name (d ∷ ds) =
     cond (sameName (d .name) name) ((n + size (d .expression) - 1) ∷ []) (definitionAt (n + size (d .expression)) name ds)
 
--- What a well-formed stored ad keeps to, of its room, operands and definitions: for 'a stored ad is well formed exactly if ..'.
+-- What a well-formed stored ad keeps to, of its room, nodes and definitions
 pub record Formed (w : List ℕ) : Type 0 where
   pub words-room : adWords ≤ length w
   pub operands-below : (i : ℕ) → i < nodeCount w → Each (λ y. y < i) (operands w i)
+  -- a slot that no node has is clear, so that it leads nowhere
+  pub unused-clear : (i : ℕ) → nodeCount w ≤ i → i < maxNodes → kindAt w i ≡ 0
   pub roots-in : (j : ℕ) → j < definitionCount w → rootAt w j < nodeCount w
-  pub definitions-few : definitionCount w ≤ nodeCount w
 
 -- a well-formed ad, and its counts
 pub record Measured (w : List ℕ) (n d : ℕ) : Type 0 where

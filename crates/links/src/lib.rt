@@ -58,9 +58,9 @@ fn operand_of(v: &[u64], w: &[u64], x: usize, i: usize) -> usize
     NODES + ad::operand(w, x - NODES, i)
 }
 
-// How many nodes x leads to, by its marks.
+// How many nodes x leads to, by its marks; a slot that is no node leads nowhere.
 pub fn led_count(v: &[u64], w: &[u64], target: &[usize], x: usize) -> usize
-    requires { ⌜ Formed (now v) × Formed (now w) × Stands (now v) (now w) x × (x < length (now target)) ⌝ }
+    requires { ⌜ Formed (now v) × Formed (now w) × (x < 2048) × (x < length (now target)) ⌝ }
     ensures { λ r. ⌜ ((b c : List ℕ) → r ≡ length (led (pairGraph (now (v .entry)) b (now (w .entry)) c) (numbers (now (target .entry))) x)) ⌝ }
     ensures few { λ r. ⌜ r ≤ 3 ⌝ }
 {
@@ -79,7 +79,7 @@ pub fn led_count(v: &[u64], w: &[u64], target: &[usize], x: usize) -> usize
 
 // The node i of those that x leads to.
 pub fn led_to(v: &[u64], w: &[u64], target: &[usize], x: usize, i: usize) -> usize
-    requires { ⌜ Formed (now v) × Formed (now w) × Stands (now v) (now w) x × (x < length (now target)) × ((b c : List ℕ) → i < length (led (pairGraph (now v) b (now w) c) (numbers (now target)) x)) ⌝ }
+    requires { ⌜ Formed (now v) × Formed (now w) × (x < 2048) × (x < length (now target)) × ((b c : List ℕ) → i < length (led (pairGraph (now v) b (now w) c) (numbers (now target)) x)) ⌝ }
     ensures { λ r. ⌜ ((b c : List ℕ) → r ≡ getD (led (pairGraph (now (v .entry)) b (now (w .entry)) c) (numbers (now (target .entry))) x) i 0) ⌝ }
     ensures small { λ r. ⌜ r < 2048 ⌝ }
 {
@@ -92,7 +92,7 @@ pub fn led_to(v: &[u64], w: &[u64], target: &[usize], x: usize, i: usize) -> usi
 
 // How many nodes x needs, by its marks: a circular reference needs none.
 pub fn need_count(v: &[u64], w: &[u64], target: &[usize], flag: &[usize], x: usize) -> usize
-    requires { ⌜ Formed (now v) × Formed (now w) × Stands (now v) (now w) x × (x < length (now target)) × (x < length (now flag)) ⌝ }
+    requires { ⌜ Formed (now v) × Formed (now w) × (x < 2048) × (x < length (now target)) × (x < length (now flag)) ⌝ }
     ensures { λ r. ⌜ ((b c : List ℕ) → r ≡ length (needed (pairGraph (now (v .entry)) b (now (w .entry)) c) (numbers (now (target .entry))) (raised (now (flag .entry))) x)) ⌝ }
     ensures few { λ r. ⌜ r ≤ 3 ⌝ }
 {
@@ -104,7 +104,7 @@ pub fn need_count(v: &[u64], w: &[u64], target: &[usize], flag: &[usize], x: usi
 
 // Whether the node x is a reference.
 pub fn refers(v: &[u64], w: &[u64], x: usize) -> bool
-    requires { ⌜ Formed (now v) × Formed (now w) × Stands (now v) (now w) x ⌝ }
+    requires { ⌜ Formed (now v) × Formed (now w) × (x < 2048) ⌝ }
     ensures { λ r. ⌜ ((b c : List ℕ) → r ≡ pairGraph (now (v .entry)) b (now (w .entry)) c .ref x) ⌝ }
 {
     let kind = kind_of(v, w, x);

@@ -4,11 +4,11 @@ ghost use mathlib.Core.List.{map};
 ghost use Prim.Native.Nat.{ℕ, _+_, _≤_, _<_};
 ghost use lib.ListN.{length, getD};
 ghost use Rattle.text.specs.Strings.{sameName};
-ghost use Rattle.names.specs.Fingerprint.{fingerprintOf};
+ghost use Rattle.names.specs.Inner.Fingerprint.{fingerprintOf};
 ghost use Rattle.graph.specs.Transition.{marked};
 ghost use Rattle.ad.specs.Stored.{offsetAt, lengthAt, definitionCount, bytesAt, find};
 ghost use Rattle.links.specs.Pair.{numbered, printAt, Formed, Printed};
-ghost use Rattle.links.specs.Filling.{Filled};
+ghost use Rattle.links.specs.Inner.Filling.{Filled};
 
 const NODES: usize = 1024;
 

@@ -17,11 +17,11 @@ row f u t o U = u
 row f u t o T = t
 row f u t o O = o
 
--- F, as a value: for 'Tables (F, U, T, and O for anything else)'
+-- F, as a value
 abbrev no : Value
 no = Boolean false
 
--- T, as a value: for 'Tables (F, U, T, and O for anything else)'
+-- T, as a value
 abbrev yes : Value
 yes = Boolean true
 

@@ -18,10 +18,10 @@ use Rattle.syntax.specs.declared.Unary.the-variants.{Not, Plus, Minus}
 use Rattle.syntax.specs.declared.Symbol.{Symbol}
 use Rattle.syntax.specs.declared.Symbol.the-variants.{Exclamation, Question, Colon, OpenParenthesis, CloseParenthesis, OpenBracket, CloseBracket, Semicolon, Assign, Point, Other, Parent}
 use Rattle.syntax.specs.Tree.{string}
-use Rattle.lexer.specs.Meaning.{tokensAt, literalOf, stringAt, Scanned}
+use Rattle.lexer.specs.Inner.Meaning.{tokensAt, literalOf, stringAt, Scanned}
 use Rattle.lexer.specs.declared.Token as K
 use Rattle.lexer.specs.declared.Token.the-variants as KV
-use Rattle.lookahead.specs.Ask.{NotToken, NotWord, NotBinary, Misfit, Stands, SymbolIs, WordIs, BinaryIs, UnaryIs}
+use Rattle.lookahead.specs.Inner.Ask.{NotToken, NotWord, NotBinary, Misfit, Stands, SymbolIs, WordIs, BinaryIs, UnaryIs}
 use Rattle.lookahead.specs.declared.SymbolAt.the-variants as S
 use Rattle.lookahead.specs.declared.WordAt.the-variants as W
 use Rattle.lookahead.specs.declared.BinaryAt.the-variants as B

@@ -9,7 +9,7 @@ ghost use lib.ListN.{length};
 ghost use Rattle.syntax.specs.Token.{operator, symbol};
 ghost use Rattle.syntax.specs.Grammar.{bindsOf};
 ghost use Rattle.syntax.specs.Reader.{codeOf};
-ghost use Rattle.lookahead.specs.Ask.{SymbolIs, WordIs, BinaryIs, UnaryIs};
+ghost use Rattle.lookahead.specs.Inner.Ask.{SymbolIs, WordIs, BinaryIs, UnaryIs};
 
 // A symbol's place and the place behind it; or the number and place of the refusal of what is there.
 pub enum SymbolAt {

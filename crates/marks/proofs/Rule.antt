@@ -3,7 +3,7 @@ use mathlib.Core.Path.{_≡_, refl, sym, ap, _∙_}
 use mathlib.Core.Logic.{_≢_}
 use mathlib.Core.Bool.{cond}
 use mathlib.Core.List.{List, [], _∷_, _++_}
-use Prim.Native.Nat.{ℕ, zero, suc, _+_, _-_, _*_, _≤_, _<_}
+use Prim.Native.Nat.{ℕ, suc, _+_, _-_, _*_, _≤_, _<_}
 use native.Mathlib.Numerals.{add-one}
 use native.Mathlib.Omega.{arith}
 use lib.ListN.{length, set, take, drop, drop-of-length-le}
@@ -11,19 +11,19 @@ use lib.Seq.{drop-cons, getD-set-other, take-suc-set}
 use Rattle.graph.specs.Members.{put, numbers, raised}
 use Rattle.graph.specs.Laws.Members.{ltb-yes, ltb-no}
 use Rattle.graph.specs.Graph.{Graph}
-use Rattle.graph.specs.Transition.{needed, back, marked, searchedTo, resolvedTo, transition}
+use Rattle.graph.specs.Transition.{named, needed, back, marked, searchedTo, resolvedTo, transition}
 use Rattle.graph.specs.Laws.Transitions.{state-eq, transition-resolve, transition-begin, transition-omit, transition-pass, transition-enter, transition-leave}
 use Rattle.graph.specs.declared.Place.{Place}
 use Rattle.graph.specs.declared.Place.the-variants.{Resolving, Starting, Between, Inside}
-use Rattle.marks.specs.Memory.{view, markAt, markWords, fill, AtNode, AtStart, AtLink, AtLast, Grows}
-use Rattle.marks.proofs.Slices.{numbers-set, mark-set, mark-keep, fill-at, fill-behind}
+use Rattle.marks.specs.Inner.Memory.{view, markAt, marksRoom, markWords, fill, AtNode, AtStart, AtLink, AtLast, Grows}
+use Rattle.marks.proofs.Slices.{names-none, names-some, numbers-set, mark-set, mark-keep, fill-at, fill-behind}
 
-pub back-none : (k f : ℕ) → f ≡ 0 → Between (k + 1) ≡ back k f
-back-none k f e = rw e (ap Between (add-one k))
+module _ (G : Graph) (k : ℕ) {r : ℕ} {f : List ℕ} (e : named G r ≡ f) where
+  pub back-none : r ≡ 0 → Between (k + 1) ≡ back k f
+  back-none z = ap Between (add-one k) ∙ ap (back k) (names-none G e z)
 
-pub back-some : (k f : ℕ) → f ≢ 0 → Inside k (f - 1) ≡ back k f
-back-some k zero e = absurd (e refl)
-back-some k (suc p) e = ap (Inside k) (omega arith)
+  pub back-some : G .slots ≡ marksRoom → r ≢ 0 → r ≤ 2048 → Inside k (r - 1) ≡ back k f
+  back-some s n h = ap (back k) (names-some G e s n h)
 
 -- ---- a node is resolved
 
@@ -123,14 +123,14 @@ module _ {G : Graph} {x y i : ℕ} {ta ma fl : List ℕ} (a : AtLink G x y i ta 
 
 -- ---- a node is left
 
-pub leave-lists : {G : Graph} {x f : ℕ} {ta ma fl : List ℕ} → AtLast G x f ta ma fl → (k len : ℕ) (ls : List ℕ) {p : Place} {v : ℕ} → p ≡ back k f → v ≡ x + 1 → len < length ls →
+pub leave-lists : {G : Graph} {x f : ℕ} {ta ma fl : List ℕ} → AtLast G x f ta ma fl → (k len : ℕ) (ls : List ℕ) {p : Place} {v : ℕ} → (G .slots ≡ marksRoom → p ≡ back k (named G f)) → v ≡ x + 1 → len < length ls →
     view p (len + 1) ta ma fl (set ls len v) ≡ transition G (view (Inside k x) len ta ma fl ls)
 unfolding view
 leave-lists {G} {x} {ta = ta} {ma} {fl} a k len ls {v = v} e q lt =
     let w : take (len + 1) (set ls len v) ≡ take len ls ++ suc x ∷ [] = rw (add-one len) (take-suc-set ls len v lt ∙ ap (λ (u : ℕ). take len ls ++ u ∷ []) (q ∙ add-one x)) in
     sym
     (transition-leave G (view (Inside k x) len ta ma fl ls) k x refl (drop-of-length-le (needed G (numbers ta) (raised fl) x) (a .over))
-    ∙ state-eq (sym (e ∙ ap (back k) (a .from-is))) refl refl refl refl refl refl refl refl (sym w))
+    ∙ state-eq (sym (e (a .slots-are) ∙ ap (λ (u : ℕ). back k (named G u)) (a .from-is))) refl refl refl refl refl refl refl refl (sym w))
 
 pub grows-one : (len v : ℕ) (ls : List ℕ) → len < length ls → Grows len (len + 1) ls (set ls len v)
 grows-one len v ls h = record {

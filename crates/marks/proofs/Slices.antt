@@ -10,8 +10,11 @@ use lib.ListN.{length, getD, set, length-set}
 use lib.Seq.{getD-set-same, getD-set-other}
 use lib.Dec.{eqb}
 use Rattle.graph.specs.Members.{put, numbers, raised}
-use Rattle.graph.specs.Laws.Members.{put-same, put-other, eqb-yes}
-use Rattle.marks.specs.Memory.{markAt, markWords, fill, flaggedAt, Flagged}
+use Rattle.graph.specs.Graph.{Graph}
+use Rattle.graph.specs.Transition.{named}
+use Rattle.graph.specs.Laws.Transitions.{named-of, named-none}
+use Rattle.graph.specs.Laws.Members.{put-same, put-other, eqb-yes, ltb-no}
+use Rattle.marks.specs.Inner.Memory.{markAt, marksRoom, markWords, fill, flaggedAt, Flagged}
 
 pub numbers-set : (l : List ℕ) (x v : ℕ) → x < length l → numbers (set l x v) ≡ put (numbers l) x v
 numbers-set l x v h = fun-ext (λ i. case i (ℕ-discrete x i))
@@ -62,6 +65,20 @@ pub flagged-by : (before : List ℕ) (x : ℕ) (b : Bool) {after : List ℕ} →
 unfolding flaggedAt
 flagged-by before x true e = inr e
 flagged-by before x false e = inl e
+
+-- ---- what a mark names
+
+pub names-far : (G : Graph) (f : ℕ) → G .slots ≡ marksRoom → 2048 < f → named G 0 ≡ named G f
+unfolding named
+names-far G zero s h = refl
+names-far G (suc y) s h = rw (ltb-no (let q : G .slots ≤ y = omega arith in q)) refl
+
+module _ (G : Graph) {r : ℕ} {l : List ℕ} (e : named G r ≡ l) where
+  pub names-none : r ≡ 0 → [] ≡ l
+  names-none z = sym (named-none G z) ∙ e
+
+  pub names-some : G .slots ≡ marksRoom → r ≢ 0 → r ≤ 2048 → (r - 1) ∷ [] ≡ l
+  names-some s n h = sym (named-of G (let q : r ≡ suc (r - 1) = omega arith in q) (let q : r - 1 < G .slots = omega arith in q)) ∙ e
 
 -- ---- marks
 

@@ -14,9 +14,9 @@ ghost use mathlib.Core.List.{List};
 ghost use Prim.Native.Nat.{ℕ, _+_, _-_, _*_, _≤_, _<_, min};
 ghost use lib.ListN.{length, set};
 ghost use Rattle.graph.specs.Graph.{Graph};
-ghost use Rattle.graph.specs.Transition.{searchedTo, backOpen, backClosed, nextOpen, transition};
+ghost use Rattle.graph.specs.Transition.{named, searchedTo, backOpen, backClosed, nextOpen, transition};
 ghost use Rattle.graph.specs.declared.Place.the-variants.{Starting, Searching, Closing};
-ghost use Rattle.marks.specs.Memory.{view, markWords, Flagged, flaggedAt, AtSeek, AtLoopLink, AtLoopLast};
+ghost use Rattle.marks.specs.Inner.Memory.{view, marksRoom, markWords, Flagged, flaggedAt, AtSeek, AtLoopLink, AtLoopLast, AtClose};
 
 // Where the traversal goes on when k of n loop searches are done.
 fn searched_to(k: usize, n: usize) -> Place
@@ -46,40 +46,44 @@ fn less(a: usize) -> usize
     a - 1
 }
 
-// Where loop search k goes on from a node that was entered from f and stays open.
+// Where loop search k goes on from a node that stays open, and whose mark says that it was entered from f.
 fn back_open(k: usize, n: usize, f: usize, top: usize, high: usize, low: usize) -> Place
     requires { ⌜ k < 4096 ⌝ }
-    ensures { λ r. ⌜ ((G : Graph) → n ≡ G .size → r ≡ backOpen G k f top high low) ⌝ }
+    ensures { λ r. ⌜ ((G : Graph) → n ≡ G .size → G .slots ≡ marksRoom → r ≡ backOpen G k (named G f) top high low) ⌝ }
 {
-    if f == 0 {
+    let p = memory::in_slots(f);
+    if p == 0 {
         return searched_to(k + 1, n);
     }
-    Place::Searching(k, f - 1, top, high, low)
+    Place::Searching(k, p - 1, top, high, low)
 }
 
-// Where it goes on from a node that was entered from f and is closed, b being the next older open node.
+// Where it goes on from a node that is closed, and whose marks say that it was entered from f and that b is the next older open node.
 fn back_closed(k: usize, n: usize, f: usize, b: usize, high: usize, low: usize) -> Place
     requires { ⌜ k < 4096 ⌝ }
-    ensures { λ r. ⌜ ((G : Graph) → n ≡ G .size → r ≡ backClosed G k f b high low) ⌝ }
+    ensures { λ r. ⌜ ((G : Graph) → n ≡ G .size → G .slots ≡ marksRoom → r ≡ backClosed G k (named G f) (named G b) high low) ⌝ }
 {
-    if f == 0 {
+    let p = memory::in_slots(f);
+    let q = memory::in_slots(b);
+    if p == 0 {
         return searched_to(k + 1, n);
     }
-    if b == 0 {
+    if q == 0 {
         return searched_to(k + 1, n);
     }
-    Place::Searching(k, f - 1, b - 1, high, low)
+    Place::Searching(k, p - 1, q - 1, high, low)
 }
 
-// Where it goes on when an open node newer than x is closed, b being the next older one.
+// Where it goes on when an open node newer than x is closed, whose mark says that b is the next older one.
 fn next_open(k: usize, n: usize, x: usize, b: usize, high: usize) -> Place
     requires { ⌜ k < 4096 ⌝ }
-    ensures { λ r. ⌜ ((G : Graph) → n ≡ G .size → r ≡ nextOpen G k x b high) ⌝ }
+    ensures { λ r. ⌜ ((G : Graph) → n ≡ G .size → G .slots ≡ marksRoom → r ≡ nextOpen G k x (named G b) high) ⌝ }
 {
-    if b == 0 {
+    let q = memory::in_slots(b);
+    if q == 0 {
         return searched_to(k + 1, n);
     }
-    Place::Closing(k, x, b - 1, high)
+    Place::Closing(k, x, q - 1, high)
 }
 
 // Loop search k begins at y, unless y was seen.
@@ -202,7 +206,7 @@ pub fn close(
     marks: &mut [u16],
 ) -> Position
     requires { ⌜ (k < 4096) × (x < 2048) × (top < 2048) × (markWords ≤ length (now marks)) ⌝ }
-    ensures { λ r. ⌜ ((G : Graph) (ta fl ls : List ℕ) → n ≡ G .size → view (r .place) (r .len) ta (now (marks .exit)) fl ls ≡ transition G (view (Closing k x top high) len ta (now (marks .entry)) fl ls)) ⌝ }
+    ensures { λ r. ⌜ ((G : Graph) (ta fl ls : List ℕ) → AtClose G n → view (r .place) (r .len) ta (now (marks .exit)) fl ls ≡ transition G (view (Closing k x top high) len ta (now (marks .entry)) fl ls)) ⌝ }
     ensures kept { λ r. ⌜ r .len ≡ len ⌝ }
 {
     let rest = less(high);

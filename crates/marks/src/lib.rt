@@ -16,9 +16,9 @@ ghost use mathlib.Core.List.{List};
 ghost use Prim.Native.Nat.{ℕ, _+_, _≤_, _<_};
 ghost use lib.ListN.{length};
 ghost use Rattle.graph.specs.Graph.{Graph};
-ghost use Rattle.graph.specs.Transition.{back, transition};
+ghost use Rattle.graph.specs.Transition.{named, back, transition};
 ghost use Rattle.graph.specs.declared.Place.the-variants.{Resolving, Between, Inside};
-ghost use Rattle.marks.specs.Memory.{view, markWords, AtNode, AtStart, AtLink, AtLast, Grows};
+ghost use Rattle.marks.specs.Inner.Memory.{view, marksRoom, markWords, AtNode, AtStart, AtLink, AtLast, Grows};
 
 // Where the traversal stands, and how long the list is.
 pub struct Position {
@@ -92,15 +92,16 @@ pub fn follow(k: usize, x: usize, y: usize, i: usize, len: usize, marks: &mut [u
     }
 }
 
-// Where list search k goes on from a node that was entered from f.
+// Where list search k goes on from a node whose mark says that it was entered from f.
 fn back_from(k: usize, f: usize) -> Place
     requires { ⌜ k < 4096 ⌝ }
-    ensures { λ r. ⌜ r ≡ back k f ⌝ }
+    ensures { λ r. ⌜ ((G : Graph) → G .slots ≡ marksRoom → r ≡ back k (named G f)) ⌝ }
 {
-    if f == 0 {
+    let p = memory::in_slots(f);
+    if p == 0 {
         return Place::Between(k + 1);
     }
-    Place::Inside(k, f - 1)
+    Place::Inside(k, p - 1)
 }
 
 // An entry of the list.

@@ -1,11 +1,15 @@
-// The slice of marks: six numbers a node, of 16 bits each, since no mark is above 16 times 2,048.
+// The slice of marks: six numbers a node, of 16 bits each, since from clear marks no height is above 2,049.
 ghost use mathlib.Core.Path.{_≡_};
 ghost use mathlib.Core.List.{[], _∷_};
 ghost use Prim.Native.Nat.{_+_, _*_, _≤_, _<_};
 ghost use lib.ListN.{length, set};
-ghost use Rattle.marks.specs.Memory.{markAt, markWords, fill};
+ghost use Rattle.graph.specs.Graph.{Graph};
+ghost use Rattle.graph.specs.Transition.{named};
+ghost use Rattle.marks.specs.Inner.Memory.{markAt, marksRoom, markWords, fill};
 
 const PER_NODE: usize = 6;
+
+const SLOTS: usize = 2048;
 
 // 1 once a loop search has seen the node, 2 once a list search has
 pub const STAMP: usize = 0;
@@ -53,6 +57,17 @@ pub fn entered_from(marks: &[u16], x: usize) -> usize
     ensures { λ r. ⌜ r ≡ markAt (now (marks .entry)) 1 x ⌝ }
 {
     read(marks, x, FROM)
+}
+
+// The mark, or 0 where it names no slot: any mark, right or wrong, then names a node with marks or none.
+pub fn in_slots(mark: usize) -> usize
+    ensures { λ r. ⌜ ((G : Graph) → G .slots ≡ marksRoom → named G r ≡ named G mark) ⌝ }
+    ensures small { λ r. ⌜ r ≤ 2048 ⌝ }
+{
+    if SLOTS < mark {
+        return 0;
+    }
+    mark
 }
 
 // Mark j of the node x becomes a.

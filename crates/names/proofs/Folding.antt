@@ -6,7 +6,7 @@ use native.Mathlib.Numerals.{add-one}
 use native.Mathlib.Omega.{arith}
 use lib.ListN.{length, getD, drop, drop-of-length-le}
 use lib.Seq.{drop-cons}
-use Rattle.names.specs.Fingerprint.{mixed, folded, fingerprintOf}
+use Rattle.names.specs.Inner.Fingerprint.{mixed, folded, fingerprintOf}
 
 -- what holds before byte i: the bytes from there on are still to be mixed in
 pub record Folding (name : List ℕ) (h i : ℕ) : Type 0 where

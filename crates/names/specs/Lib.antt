@@ -1,2 +1,2 @@
-pub mod Fingerprint
+pub mod Inner
 pub mod Laws

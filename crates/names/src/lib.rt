@@ -1,7 +1,7 @@
 // A name's fingerprint: names that match have the same one, so that names of different fingerprints need not be compared.
 ghost use mathlib.Core.Path.{_≡_};
 ghost use Prim.Native.Nat.{_<_};
-ghost use Rattle.names.specs.Fingerprint.{mixed, fingerprintOf};
+ghost use Rattle.names.specs.Inner.Fingerprint.{mixed, fingerprintOf};
 
 // One more byte.
 fn mix(h: u32, b: u8) -> u32

@@ -25,8 +25,8 @@ literalValue second o (tree.integer n) = Integer n
 literalValue second o (tree.real n places) = Real (literalReal n places)
 literalValue second o (tree.string l) = String second o (length l)
 
--- the value of a literal by its node's numbers (docs/LAYOUT.md: 'Layouts are the team's, written in docs/'), whatever they are; that
--- a stored literal has the literal's value is Laws/Stored.antt, `literal-value`
+-- the value of a literal by its node's numbers (docs/LAYOUT.md), whatever they are; that a stored literal has the literal's value
+-- is Laws/Stored.antt, `literal-value`
 abbrev pub constantOf : Bool → ℕ → ℕ → ℕ → Value
 constantOf second k a b =
     cond (eqb k 2) Error

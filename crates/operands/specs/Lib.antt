@@ -1,2 +1,2 @@
 pub mod Strict
-pub mod Operands
+pub mod Inner

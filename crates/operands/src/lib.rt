@@ -1,6 +1,6 @@
 // What two operands are to a strict operator.
 ghost use mathlib.Core.Path.{_≡_};
-ghost use Rattle.operands.specs.Operands.{withUndefined, withInteger, withReal, withString, operandsOf, numberOnly};
+ghost use Rattle.operands.specs.Inner.Operands.{withUndefined, withInteger, withReal, withString, operandsOf, numberOnly};
 use values::Value;
 
 // What two operands are to a strict operator: not admitted, one of them Undefined, or the two values.

@@ -19,15 +19,15 @@ pub record Example : Type 0 where
   pub text : Expression
   pub gives : Value
 
--- the strings of the examples: for 'their bytes are shown as a part of that ad's lent memory'
+-- the strings of the examples
 unfoldable pub memory : List ℕ
 memory = bytes "xOneoneaB"
 
--- every example of a table gives its value: for 'W1 to W12 stand as one statement over one table.'
+-- every example of a table gives its value
 abbrev pub Holds : List Example → Type 0
 Holds table = map (λ (e : Example). valueOf memory (e .text)) table ≡ map (λ (e : Example). e .gives) table
 
--- an Integer by its whole number: negsuc n is -(n + 1): for 'wrap at 32 bits'
+-- an Integer by its whole number: negsuc n is -(n + 1)
 abbrev pub integer : ℤ → Value
 integer z = Integer (wrap width z)
 

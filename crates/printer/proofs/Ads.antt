@@ -12,7 +12,7 @@ use Rattle.syntax.specs.Tree.{Definition, Ad, size}
 use Rattle.syntax.specs.Print.{printed, definitionText, definitionsText, printedAd}
 use Rattle.ad.specs.Stored.{offsetAt, lengthAt, rootAt, bytesAt}
 use Rattle.ad.specs.Laws.Content.{size-some}
-use Rattle.writer.specs.Put.{Puts, Near}
+use Rattle.writer.specs.Inner.Put.{Puts, Near}
 use Rattle.writer.proofs.Laws.{puts-byte, puts-join, puts-as}
 use Rattle.well_formed.specs.WellFormed.{Holds, Answers}
 use Rattle.well_formed.specs.Laws.Bounds.{bounded}
@@ -22,7 +22,7 @@ use Rattle.well_formed.specs.Laws.Definitions.{Table, table-row}
 use Rattle.well_formed.specs.Laws.Prints.{length-definition}
 use Rattle.well_formed.specs.Laws.Whole.{holds-table}
 use Rattle.well_formed.specs.declared.Checked.the-variants.{WellFormed, Malformed}
-use Rattle.printer.specs.Post.{Fits, Written, RowFits, RowWritten, TableFits, TableWritten, AdWritten}
+use Rattle.printer.specs.Inner.Post.{Fits, Written, RowFits, RowWritten, TableFits, TableWritten, AdWritten}
 use Rattle.printer.specs.Prints.{Roomy, Stored, Refuses, small, malformed, long, PrintsText, Prints, HandsBack}
 use Rattle.printer.specs.declared.Printed.{Printed}
 use Rattle.printer.specs.declared.Printed.the-variants.{Text, Refused}

@@ -10,10 +10,10 @@ use borrow.Author.Tests.{eqb-true, ne-eqb}
 use Rattle.text.specs.Bytes.{bytes}
 use Rattle.syntax.specs.Tree.{Literal, undefined, error, boolean, integer, real, string, own, other, Expr, literal, reference}
 use Rattle.syntax.specs.Print.{decimal, literalText, referenceText, printed}
-use Rattle.lexemes.specs.Lexeme.{isName, isString, isReal}
+use Rattle.lexemes.specs.Inner.Lexeme.{isName, isString, isReal}
 use Rattle.ad.specs.Stored.{kindAt, operandAt, bytesAt}
-use Rattle.writer.specs.Put.{Near}
-use Rattle.well_formed.specs.Decode.{Found, got, bad, test, keywordFits, booleanFits, integerFits, standsAt, leafOf, leafAt}
+use Rattle.writer.specs.Inner.Put.{Near}
+use Rattle.well_formed.specs.Inner.Decode.{Found, got, bad, test, keywordFits, booleanFits, integerFits, standsAt, leafOf, leafAt}
 use Rattle.well_formed.specs.Laws.Shapes.{and-left}
 
 none : {e : Expr} → bad ≡ got e → ⊥

@@ -1,3 +1,3 @@
 pub mod Prints
-pub mod Post
 pub mod Sizes
+pub mod Inner

@@ -8,10 +8,10 @@ ghost use lib.ListN.{length};
 ghost use lib.Dec.{eqb};
 ghost use Rattle.syntax.specs.Tree.{boolean};
 ghost use Rattle.syntax.specs.Print.{literalText, printed};
-ghost use Rattle.writer.specs.Put.{Near, Puts};
+ghost use Rattle.writer.specs.Inner.Put.{Near, Puts};
 ghost use Rattle.ad.specs.Stored.{kindAt};
 ghost use Rattle.printer.specs.Prints.{Prints, HandsBack};
-ghost use Rattle.printer.specs.Post.{bindsKind, wrapped, Fits, Written, LeafFits, LeafWritten, RowFits, RowWritten, TableFits, TableWritten, AdWritten};
+ghost use Rattle.printer.specs.Inner.Post.{bindsKind, wrapped, Fits, Written, LeafFits, LeafWritten, RowFits, RowWritten, TableFits, TableWritten, AdWritten};
 
 // What printing gives.
 pub enum Printed {

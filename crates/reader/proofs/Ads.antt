@@ -14,9 +14,9 @@ use Rattle.syntax.specs.Grammar.{defined}
 use Rattle.ad.specs.Layout.{exprNodes, exprBytes, adNodes, adDefinitions, adBytes}
 use Rattle.ad.specs.Stored.{definedIn}
 use Rattle.ad.specs.Laws.Names.{names-in}
-use Rattle.leaves.specs.Marks.{Mark, mark, Memory, memory}
+use Rattle.leaves.specs.Inner.Marks.{Mark, mark, Memory, memory}
 use Rattle.expressions.proofs.Words.{length-nodes, stores, marks}
-use Rattle.reader.specs.Post.{ends, storedIn, Holds, one}
+use Rattle.reader.specs.Inner.Post.{ends, storedIn, Holds, one}
 
 -- ---- one definition more
 

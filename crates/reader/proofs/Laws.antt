@@ -15,16 +15,16 @@ use Rattle.syntax.specs.Grammar.{defined}
 use Rattle.syntax.specs.Reader as R
 use Rattle.syntax.specs.Reader.{Parsed, ok, refused, misfit, onToken, onWord, wantA, afterA, endA, admit, limits, count, enough, conditionalAt, definitionsAt, behindAt, adAt, parse}
 use Rattle.syntax.specs.declared.Symbol.the-variants.{OpenBracket, CloseBracket, Semicolon, Assign}
-use Rattle.lexer.specs.Meaning.{tokensAt}
-use Rattle.lookahead.specs.Ask.{NotToken, NotWord, Misfit, Stands}
+use Rattle.lexer.specs.Inner.Meaning.{tokensAt}
+use Rattle.lookahead.specs.Inner.Ask.{NotToken, NotWord, Misfit, Stands}
 use Rattle.ad.specs.Layout.{exprNodes, exprBytes, adNodes, adDefinitions, adBytes}
 use Rattle.ad.specs.Stored.{definedIn}
-use Rattle.leaves.specs.Marks.{Mark, mark, past, Memory, memory, written, left, Inside}
+use Rattle.leaves.specs.Inner.Marks.{Mark, mark, past, Memory, memory, written, left, Inside}
 use Rattle.leaves.proofs.Laws.{fewer-left, misfit-of, token-off, word-off}
-use Rattle.expressions.specs.Post.{ConditionalOk}
+use Rattle.expressions.specs.Inner.Post.{ConditionalOk}
 use Rattle.expressions.specs.declared.Read.the-variants as E
 use Rattle.expressions.proofs.Words.{stores}
-use Rattle.reader.specs.Post.{ends, storedIn, Holds, AgreesAd, DefinitionsOk, BehindOk, EndOk, definitionAt, one, DefinitionOk}
+use Rattle.reader.specs.Inner.Post.{ends, storedIn, Holds, AgreesAd, DefinitionsOk, BehindOk, EndOk, definitionAt, one, DefinitionOk}
 use Rattle.reader.specs.declared.Answer.{Answer}
 use Rattle.reader.specs.declared.Answer.the-variants.{Accepted, Refused}
 use Rattle.reader.proofs.Ads.{names-found, holds-more}

@@ -13,9 +13,9 @@ use Rattle.syntax.specs.Reader as R
 use Rattle.syntax.specs.Reader.{parse, read}
 use Rattle.syntax.specs.Laws.Accepts.{accepts}
 use Rattle.ad.specs.Layout.{padded, adNodes, adDefinitions, adBytes, storedWords, storedBytes}
-use Rattle.leaves.specs.Marks.{Memory, memory}
+use Rattle.leaves.specs.Inner.Marks.{Memory, memory}
 use Rattle.reader.specs.Content.{answerOf, wordsOf, bytesOf, answer, wordsAfter, bytesAfter, Answered, Left, Cleared}
-use Rattle.reader.specs.Post.{storedIn, AgreesAd}
+use Rattle.reader.specs.Inner.Post.{storedIn, AgreesAd}
 use Rattle.reader.specs.declared.Answer.{Answer}
 use Rattle.reader.specs.declared.Answer.the-variants.{Accepted, Refused}
 use Rattle.reader.proofs.Ads.{length-ad-nodes, length-ad-definitions}

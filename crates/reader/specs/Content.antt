@@ -2,7 +2,7 @@
 -- memory. Assumes nothing.
 use Prim.Native.Nat.{ℕ, _≤_}
 use mathlib.Core.Path.{_≡_}
-use mathlib.Core.Bool.{Bool, _||_}
+use mathlib.Core.Bool.{_||_}
 use mathlib.Core.List.{List, _++_}
 use lib.ListN.{length, drop, replicate}
 use lib.Dec.{ltb}
@@ -10,7 +10,7 @@ use Rattle.syntax.specs.Bounds.{textBytes}
 use Rattle.syntax.specs.Tree.{Ad, nodes}
 use Rattle.syntax.specs.Token.{pick}
 use Rattle.syntax.specs.Reader as R
-use Rattle.ad.specs.Layout.{adWords, adBytesRoom, storedWords, storedBytes}
+use Rattle.ad.specs.Layout.{adWords, adBytesRoom, storedWords, storedBytes, smallAd}
 use Rattle.reader.specs.declared.Answer.{Answer}
 use Rattle.reader.specs.declared.Answer.the-variants.{Accepted, Refused}
 
@@ -29,21 +29,17 @@ abbrev pub bytesOf : R.Answer → List ℕ
 bytesOf (R.accepted a) = storedBytes a
 bytesOf (R.denied k p) = replicate adBytesRoom 0
 
--- 'lent room smaller than above'
-abbrev pub small : List ℕ → List ℕ → Bool
-small w b = ltb (length w) adWords || ltb (length b) adBytesRoom
-
 -- 'Checks go 1, 2, then tokens left to right'; place '0 for 1, 2'
 unfoldable pub answer : List ℕ → List ℕ → List ℕ → Answer
-answer s w b = pick (small w b) (λ _. Refused 1 0) (λ _. answerOf (R.read s))
+answer s w b = pick (smallAd w b) (λ _. Refused 1 0) (λ _. answerOf (R.read s))
 
 -- 1 and 2 leave 'all unchanged'; 'Memory lent beyond these sizes is never changed'
 unfoldable pub wordsAfter : List ℕ → List ℕ → List ℕ → List ℕ
-wordsAfter s w b = pick (small w b || ltb textBytes (length s)) (λ _. w) (λ _. wordsOf (R.read s) ++ drop adWords w)
+wordsAfter s w b = pick (smallAd w b || ltb textBytes (length s)) (λ _. w) (λ _. wordsOf (R.read s) ++ drop adWords w)
 
 -- the same of the bytes: 'all unchanged'; 'Memory lent beyond these sizes is never changed'
 unfoldable pub bytesAfter : List ℕ → List ℕ → List ℕ → List ℕ
-bytesAfter s w b = pick (small w b || ltb textBytes (length s)) (λ _. b) (λ _. bytesOf (R.read s) ++ drop adBytesRoom b)
+bytesAfter s w b = pick (smallAd w b || ltb textBytes (length s)) (λ _. b) (λ _. bytesOf (R.read s) ++ drop adBytesRoom b)
 
 -- THE CONTRACT OF `read`: w′ and b′ are the words and bytes after it. 'Every public function says what it returns and what each
 -- lent slice then holds, whatever came in, refused calls too'

@@ -1,2 +1,2 @@
 pub mod Content
-pub mod Post
+pub mod Inner

@@ -7,8 +7,8 @@ use syntax::Symbol;
 ghost use mathlib.Core.Path.{_≡_};
 ghost use Prim.Native.Nat.{_+_, _≤_, _<_};
 ghost use lib.ListN.{length};
-ghost use Rattle.leaves.specs.Marks.{mark, memory};
-ghost use Rattle.reader.specs.Post.{AdRoom, AgreesAd, DefinitionsOk, BehindOk, EndOk, DefinitionOk, DefinitionWithin};
+ghost use Rattle.leaves.specs.Inner.Marks.{mark, memory};
+ghost use Rattle.reader.specs.Inner.Post.{AdRoom, AgreesAd, DefinitionsOk, BehindOk, EndOk, DefinitionOk, DefinitionWithin};
 ghost use Rattle.reader.specs.Content.{Exact, Left, Cleared, Answered};
 ghost use Rattle.syntax.specs.Reader.{parse};
 

@@ -16,7 +16,7 @@ use Rattle.syntax.specs.Laws.Accepts.{ad-complete}
 use Rattle.syntax.specs.Print.{digits, literalText, referenceText, binaryText, unaryText, binds, printed, definitionsText, printedAd, levelOf, adLevel}
 use Rattle.syntax.specs.declared.Binary.the-variants.{Add, Multiply}
 use Rattle.syntax.specs.declared.Unary.the-variants.{Minus}
-use Rattle.lexemes.specs.Lexeme.{every, isOneOf, isName, isLiteral}
+use Rattle.lexemes.specs.Inner.Lexeme.{every, isOneOf, isName, isLiteral}
 use Rattle.round_trip.specs.Bounded.{isWritable, areWritable, Bounded}
 use Rattle.round_trip.specs.WithoutPair.{pair-here, pair-left, DefinitionsWithoutPair, pair-in-last}
 use Rattle.round_trip.specs.Printed.{exprTokens, parentheses}
@@ -25,7 +25,7 @@ use Rattle.round_trip.specs.Laws.Derives.{derives}
 use Rattle.round_trip.specs.Laws.Lexing.{printed-tokens}
 use Rattle.round_trip.specs.Laws.RoundTrip.{read-back}
 
--- an ad with one definition, to print and read back: for 'definitions `name = expression`'
+-- an ad with one definition, to print and read back
 abbrev only : Expr → Ad
 only e = record { name = bytes "a"; expression = e } ∷ []
 
@@ -52,11 +52,11 @@ deep e n h k b = omega (arith, b .shallow)
 
 -- ---- sums
 
--- a term of the sums: for the slip 'a sum of 100 terms reads back as refusal 6'
+-- a term of the sums
 abbrev one : Expr
 one = literal (integer 1)
 
--- a sum of n + 1 terms: for the slip 'a sum of 100 terms reads back as refusal 6'
+-- a sum of n + 1 terms
 unfoldable pub sum : ℕ → Expr
 sum zero = one
 sum (suc n) = binary Add (sum n) one
@@ -125,7 +125,7 @@ sum-1000-large h = let k : size (sum 999) + 0 ≤ 1024 = (unfold nodes in h .wit
 
 -- ---- levels
 
--- n operators of one operand before a name: for 'the operand of a unary operator .. one level deeper'
+-- n operators of one operand before a name
 unfoldable pub chain : ℕ → Expr
 chain zero = reference own (bytes "a")
 chain (suc n) = unary Minus (chain n)
@@ -164,8 +164,7 @@ chain-read-back =
 pub chain-65-deep : Bounded (only (chain 65)) → ⊥
 chain-65-deep h = deep (chain 65) 65 (chain-level 65) (omega arith) h
 
--- a sum of n + 1 terms that groups to the right, each pair in parentheses but the last: for 'The inside of parentheses, .. one
--- level deeper'
+-- a sum of n + 1 terms that groups to the right, each pair in parentheses but the last
 unfoldable pub nest : ℕ → Expr
 nest zero = one
 nest (suc n) = binary Add one (nest n)
@@ -181,7 +180,7 @@ nest-66-deep h = deep (nest 66) 65 (nest-level 65) (omega arith) h
 
 -- ---- a pair taken away
 
--- the tree of `(1 + 1) * 1`, whose pair is needed: for 'Parentheses only where the tree would otherwise read differently'
+-- the tree of `(1 + 1) * 1`, whose pair is needed
 abbrev product : Expr
 product = binary Multiply (binary Add one one) one
 
@@ -190,8 +189,7 @@ pub product-printed : printedAd (only product) ≡ bytes "[a = (1 + 1) * 1]"
 unfolding printedAd definitionsText printed binds literalText binaryText digits bytes
 product-printed = refl
 
--- without its pair: this does not read as the same tree (`pair-needed`), for 'Parentheses only where the tree would otherwise
--- read differently'
+-- without its pair: this does not read as the same tree (`pair-needed`)
 pub product-without-pair : DefinitionsWithoutPair (only product) (bytes "a = 1 + 1 * 1")
 unfolding printed binds literalText binaryText digits bytes
 product-without-pair = let lt : binds (binary Add one one) < 6 = omega arith in pair-in-last (pair-left (pair-here lt))

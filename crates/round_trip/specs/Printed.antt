@@ -40,7 +40,7 @@ definitionTokens (d ∷ e ∷ ds) =
 unfoldable pub adTokens : Ad → List Token
 adTokens a = symbol OpenBracket ∷ (definitionTokens a ++ symbol CloseBracket ∷ [])
 
--- how many pairs of parentheses there are: for 'Parentheses only where the tree would otherwise read differently'
+-- how many pairs of parentheses there are
 unfoldable pub parentheses : List Token → ℕ
 parentheses [] = 0
 parentheses (t ∷ ts) = cond (isToken (symbol OpenParenthesis) t) 1 0 + parentheses ts

@@ -10,8 +10,7 @@ use Rattle.syntax.specs.declared.Binary.{Binary}
 use Rattle.syntax.specs.declared.Unary.{Unary}
 
 -- WithoutPair k e t: where one that binds at k or tighter can stand, e is written `wrap k (binds e) (printed e)`, and t is this
--- without one pair of its parentheses: those that `wrap` writes around e, or those around an expression inside e. For
--- 'Parentheses only where the tree would otherwise read differently'
+-- without one pair of its parentheses: those that `wrap` writes around e, or those around an expression inside e
 pub data WithoutPair : ℕ → Expr → List ℕ → Type 0 where
   pair-here : {k : ℕ} {e : Expr} → binds e < k → WithoutPair k e (printed e)
   pair-operand : {k : ℕ} {u : Unary} {a : Expr} {t : List ℕ} →
@@ -33,8 +32,7 @@ pub data WithoutPair : ℕ → Expr → List ℕ → Type 0 where
       WithoutPair 0 c t →
       WithoutPair k (conditional a b c) (wrap k 0 (wrap 1 (binds a) (printed a) ++ (bytes " ? " ++ (printed b ++ (bytes " : " ++ t)))))
 
--- the printed definitions without one pair, which stands in one of them: for 'Parentheses only where the tree would otherwise
--- read differently'
+-- the printed definitions without one pair, which stands in one of them
 pub data DefinitionsWithoutPair : Ad → List ℕ → Type 0 where
   pair-in-last : {d : Definition} {t : List ℕ} →
       WithoutPair 0 (d .expression) t →
@@ -46,7 +44,6 @@ pub data DefinitionsWithoutPair : Ad → List ℕ → Type 0 where
       DefinitionsWithoutPair (e ∷ ds) t →
       DefinitionsWithoutPair (d ∷ e ∷ ds) (definitionText d ++ (bytes "; " ++ t))
 
--- the printed ad without one pair, t being its definitions: for 'Parentheses only where the tree would otherwise read
--- differently'
+-- the printed ad without one pair, t being its definitions
 abbrev pub inBrackets : List ℕ → List ℕ
 inBrackets t = code "[" ∷ (t ++ code "]" ∷ [])

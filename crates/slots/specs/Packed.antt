@@ -17,8 +17,7 @@ use Rattle.slots.specs.declared.Slot.the-variants.{Blank, Held}
 abbrev pub kindOf : Value → ℕ
 kindOf = kinds 1 2 (λ b. 3) (λ x. 4) (λ x. 5) (λ side offset length. 6)
 
--- a String's place in one word (docs/LAYOUT.md: 'Layouts are the team's, written in docs/'): for 'String values are literals of
--- either ad'
+-- a String's place in one word (docs/LAYOUT.md)
 abbrev pub placeWord : Bool → ℕ → ℕ → ℕ
 placeWord side offset length = cond side 1 0 * 2 ^ 32 + offset * 2 ^ 16 + length
 
@@ -31,13 +30,12 @@ abbrev pub kindWord : Slot → ℕ
 kindWord Blank = 0
 kindWord (Held v) = kindOf v
 
--- its second word (docs/LAYOUT.md: 'Layouts are the team's, written in docs/'): 'Each slot .. is blank or holds a value'
+-- its second word (docs/LAYOUT.md): 'Each slot .. is blank or holds a value'
 abbrev pub loadWord : Slot → ℕ
 loadWord Blank = 0
 loadWord (Held v) = loadOf v
 
--- what two words stand for, whatever they are (docs/LAYOUT.md: 'Layouts are the team's, written in docs/'): 'Each slot of the
--- table is blank or holds a value.'
+-- what two words stand for, whatever they are (docs/LAYOUT.md): 'Each slot of the table is blank or holds a value.'
 abbrev pub slotOf : ℕ → ℕ → Slot
 slotOf k p =
     cond (eqb k 1) (Held Undefined)
@@ -52,22 +50,21 @@ slotOf k p =
 abbrev pub slotAt : List ℕ → ℕ → Slot
 slotAt table i = slotOf (getD table (i * 2) 0) (getD table (i * 2 + 1) 0)
 
--- the table with a slot in its place: for 'it puts into the node's slot what the rules make of them'
+-- the table with a slot in its place
 abbrev pub putAt : List ℕ → ℕ → Slot → List ℕ
 putAt table i s = set (set table (i * 2) (kindWord s)) (i * 2 + 1) (loadWord s)
 
--- a slot whose value fits its word: for 'packed to numbers when stored in lent memory'
+-- a slot whose value fits its word
 abbrev pub SizedSlot : Slot → Type 0
 SizedSlot Blank = Unit {0}
 SizedSlot (Held v) = Sized v
 
--- r is the word that carries v, and gives v back: for 'packed to numbers when stored in lent memory'
+-- r is the word that carries v, and gives v back
 pub record Packs (v : Value) (r : ℕ) : Type 0 where
   pub word : r ≡ loadOf v
   pub back : slotOf (kindOf v) r ≡ Held v
 
--- the table after a store: what it holds, that slot i holds s where the table has room for it, and that every other slot is kept:
--- for 'it puts into the node's slot what the rules make of them, and changes no other slot'
+-- the table after a store: what it holds, that slot i holds s where the table has room for it, and that every other slot is kept
 pub record Stored (before after : List ℕ) (i : ℕ) (s : Slot) : Type 0 where
   pub whole : after ≡ putAt before i s
   pub holds : i * 2 + 1 < length before → slotAt after i ≡ s

@@ -17,7 +17,7 @@ use Rattle.syntax.specs.declared.Symbol.the-variants.{Assign, Question, 
 
 -- ---- tokens
 
--- a text and the tokens that it gives: a line of `scans`, for 'Longest token wins.' and 'its first byte is the place'
+-- a text and the tokens that it gives: a line of `scans`
 pub record Scan : Type 0 where
   pub text : List ℕ
   pub gives : Tokens
@@ -56,7 +56,7 @@ scanned = refl
 
 -- ---- reading
 
--- a text and what reading it answers: a line of `readings`, for 'A refusal carries its number and a place'
+-- a text and what reading it answers: a line of `readings`
 pub record Reading : Type 0 where
   pub text : List ℕ
   pub gives : Answer
@@ -181,7 +181,7 @@ limited-read-as = refl
 
 -- ---- printing
 
--- a tree and its text: a line of `printings`, for 'Parentheses only where the tree would otherwise read differently.'
+-- a tree and its text: a line of `printings`
 pub record Printing : Type 0 where
   pub tree : Ad
   pub gives : List ℕ
@@ -204,7 +204,7 @@ printed-as : map (λ (p : Printing). printedAd (p .tree)) printings ≡ map (λ 
 unfolding printings printing-example printedAd definitionsText printed referenceText binds unaryText binaryText literalText escapedAll escaped lastDigits digits bytes
 printed-as = refl
 
--- a sum of n + 1 terms: for 'a sum of 100 terms reads back as refusal 6'
+-- a sum of n + 1 terms
 unfoldable sum : ℕ → Expr
 sum zero = whole 1
 sum (suc n) = binary Add (sum n) (whole 1)

@@ -98,7 +98,7 @@ unfoldable pub defined : List ℕ → Ad → Bool
 defined w [] = false
 defined w (d ∷ ds) = sameName (d .name) w || defined w ds
 
--- each name of the definitions ds is new after those before it, which start with a: for 'name defined twice'
+-- each name of the definitions ds is new after those before it, which start with a
 unfoldable pub NewAfter : (List ℕ → Ad → Bool) → Ad → Ad → Type 0
 NewAfter taken a [] = Unit {0}
 NewAfter taken a (d ∷ ds) = (taken (d .name) a ≡ false) × NewAfter taken (a ++ d ∷ []) ds

@@ -15,7 +15,7 @@ use Rattle.syntax.specs.declared.Unary.the-variants.{Not, Plus, Minus}
 
 -- ---- literals
 
--- the digits of n, of which there are at most f + 1: for 'Numbers without idle leading zeros'
+-- the digits of n, of which there are at most f + 1
 unfoldable pub digits : ℕ → ℕ → List ℕ
 digits zero n = (code "0" + n) ∷ []
 digits (suc f) n = pick (ltb n 10) (λ _. (code "0" + n) ∷ []) (λ _. digits f (n / 10) ++ (code "0" + n % 10) ∷ [])
@@ -24,7 +24,7 @@ digits (suc f) n = pick (ltb n 10) (λ _. (code "0" + n) ∷ []) (λ _. digits f
 abbrev pub decimal : ℕ → List ℕ
 decimal n = digits n n
 
--- the last k digits of n: for 'one digit kept before the point, all digits after it'
+-- the last k digits of n
 unfoldable pub lastDigits : ℕ → ℕ → List ℕ
 lastDigits zero n = []
 lastDigits (suc k) n = lastDigits k (n / 10) ++ (code "0" + n % 10) ∷ []

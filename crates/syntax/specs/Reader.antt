@@ -30,8 +30,7 @@ pub data Answer : Type 0 where
 
 -- ---- the token in front
 
--- a number for each symbol and operator, so that two can be compared; 0 for a name or a literal: for 'token does not fit the
--- grammar'
+-- a number for each symbol and operator, so that two can be compared; 0 for a name or a literal
 abbrev pub codeOf : Token → ℕ
 codeOf (word w) = 0
 codeOf (constant l) = 0
@@ -63,7 +62,7 @@ codeOf (symbol Point) = 25
 codeOf (symbol Other) = 26
 codeOf (symbol Parent) = 27
 
--- whether a token is the symbol or operator x: for 'token does not fit the grammar'
+-- whether a token is the symbol or operator x
 abbrev pub isToken : Token → Token → Bool
 isToken x t = eqb (codeOf t) (codeOf x)
 
@@ -75,14 +74,13 @@ module _ {A : Type 0} (refuse : ℕ → ℕ → A) where
   misfit (bad k p) = refuse k p
 
 module _ {A : Type 0} where
-  -- where the symbol or operator x is in front, go on behind it with its place; else otherwise: for 'token does not fit the
-  -- grammar'
+  -- where the symbol or operator x is in front, go on behind it with its place; else otherwise
   abbrev pub onToken : Token → Tokens → (ℕ → Tokens → A) → (Unit {0} → A) → A
   onToken x (next p t u) then otherwise = pick (isToken x t) (λ _. then p u) otherwise
   onToken x (end n) then otherwise = otherwise tt
   onToken x (bad k p) then otherwise = otherwise tt
 
-  -- where a Name is in front: for 'definitions `name = expression`' and 'Reference: `name` or `other.name`'
+  -- where a Name is in front
   abbrev pub onWord : Tokens → (ℕ → List ℕ → Tokens → A) → (Unit {0} → A) → A
   onWord (next p (word w) u) then otherwise = then p w u
   onWord (next p (constant l) u) then otherwise = otherwise tt
@@ -91,7 +89,7 @@ module _ {A : Type 0} where
   onWord (end n) then otherwise = otherwise tt
   onWord (bad k p) then otherwise = otherwise tt
 
--- where a literal is in front: for 'then literals, references and parentheses'
+-- where a literal is in front
 abbrev pub onLiteral : Tokens → (ℕ → Literal → Tokens → Parsed) → (Unit {0} → Parsed) → Parsed
 onLiteral (next p (word w) u) then otherwise = otherwise tt
 onLiteral (next p (constant l) u) then otherwise = then p l u
@@ -100,7 +98,7 @@ onLiteral (next p (symbol s) u) then otherwise = otherwise tt
 onLiteral (end n) then otherwise = otherwise tt
 onLiteral (bad k p) then otherwise = otherwise tt
 
--- where an operator of two operands that binds at b is in front: for 'Binding, loosest first: `?:`; `||`; `&&`; ..'
+-- where an operator of two operands that binds at b is in front
 abbrev pub onBinary : ℕ → Tokens → (Binary → ℕ → Tokens → Parsed) → (Unit {0} → Parsed) → Parsed
 onBinary b (next p (word w) u) then otherwise = otherwise tt
 onBinary b (next p (constant l) u) then otherwise = otherwise tt
@@ -109,7 +107,7 @@ onBinary b (next p (symbol s) u) then otherwise = otherwise tt
 onBinary b (end n) then otherwise = otherwise tt
 onBinary b (bad k p) then otherwise = otherwise tt
 
--- where an operator of one operand is in front: for 'unary `! + -`'
+-- where an operator of one operand is in front
 abbrev pub onUnary : Tokens → (Unary → ℕ → Tokens → Parsed) → (Unit {0} → Parsed) → Parsed
 onUnary u then otherwise =
     onToken (unaryToken Not) u (then Not)

@@ -31,8 +31,7 @@ pub data Tokens : Type 0 where
   -- a token that is refused by itself: refusal 3, 5 or 7, and its place
   bad : ℕ → ℕ → Tokens
 
--- The token in front of some bytes, and how many bytes it has; or the refusal that it carries: for 'Longest token wins.' and 'no
--- token starts here'.
+-- The token in front of some bytes, and how many bytes it has; or the refusal that it carries
 pub data Front : Type 0 where
   good : Token → ℕ → Front
   wrong : ℕ → Front
@@ -44,14 +43,14 @@ module _ {A : Type 0} where
   pick true a b = a tt
   pick false a b = b tt
 
--- the longest front part of some bytes that are all of a class, as 'letters, digits, `_`': for 'Longest token wins.'
+-- the longest front part of some bytes that are all of a class, as 'letters, digits, `_`'
 unfoldable pub frontOf : (ℕ → Bool) → List ℕ → List ℕ
 frontOf class [] = []
 frontOf class (b ∷ l) = pick (class b) (λ _. b ∷ frontOf class l) (λ _. [])
 
 -- ---- names and reserved words
 
--- how a token is spelled: for 'Reserved, in any case: ..' and 'further spellings of `is` and `isnt`'
+-- how a token is spelled
 pub record Spelling : Type 0 where
   pub text : List ℕ
   pub token : Token
@@ -82,7 +81,7 @@ nameFront l =
 
 -- ---- numbers
 
--- digits read in base ten, after the number v: for 'digits, read in base ten whatever the first digit'
+-- digits read in base ten, after the number v
 unfoldable pub valueFrom : ℕ → List ℕ → ℕ
 valueFrom v [] = v
 valueFrom v (b ∷ l) = valueFrom (v * 10 + (b - code "0")) l
@@ -91,7 +90,7 @@ valueFrom v (b ∷ l) = valueFrom (v * 10 + (b - code "0")) l
 abbrev pub valueOf : List ℕ → ℕ
 valueOf ds = valueFrom 0 ds
 
--- the digits after a point in front, if there is one: for 'Real: digits, a point, digits'
+-- the digits after a point in front, if there is one
 unfoldable pub fractionOf : List ℕ → List ℕ
 fractionOf [] = []
 fractionOf (b ∷ l) = pick (eqb b (code ".")) (λ _. frontOf isDigit l) (λ _. [])
@@ -116,13 +115,12 @@ numberFront l =
 
 -- ---- strings
 
--- a string behind its opening quote: its bytes after escapes, and how many bytes of text with the closing quote; or broken: for
--- 'String: `"`, bytes .., `"`' and 'bad byte or escape in a string, string not closed'
+-- a string behind its opening quote: its bytes after escapes, and how many bytes of text with the closing quote; or broken
 pub data Body : Type 0 where
   closed : List ℕ → ℕ → Body
   broken : Body
 
--- one byte more in front, from n bytes of text: for 'string 1,024 bytes after escapes'
+-- one byte more in front, from n bytes of text
 abbrev pub grown : ℕ → ℕ → Body → Body
 grown b n (closed xs k) = closed (b ∷ xs) (n + k)
 grown b n broken = broken
@@ -182,7 +180,7 @@ spellings =
     ∷ record { text = bytes "."; token = symbol Point }
     ∷ []
 
--- whether some bytes begin with others: for 'Longest token wins.' and 'no token starts here'
+-- whether some bytes begin with others
 unfoldable pub begins : List ℕ → List ℕ → Bool
 begins [] l = true
 begins (x ∷ xs) [] = false

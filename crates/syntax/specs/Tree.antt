@@ -44,7 +44,7 @@ size (unary u a) = size a + 1
 size (binary j a b) = size a + size b + 1
 size (conditional a b c) = size a + size b + size c + 1
 
--- how many nodes an ad has: for '1,024 nodes'; 'Nodes are counted in text order'
+-- how many nodes an ad has
 unfoldable pub nodes : Ad → ℕ
 nodes [] = 0
 nodes (d ∷ ds) = size (d .expression) + nodes ds

@@ -8,7 +8,7 @@ use mathlib.Core.List.{List, [], _∷_, _++_, append-assoc}
 use lib.ListN.{length, getD, take, drop, set, length-take, length-drop, drop-of-length-le}
 use lib.Seq.{sets, slice, slice-cons, drop-cons, drop-drop, take-suc, drop-append-le, length-take-le, take-nil}
 
--- the byte at i, and those behind it: for 'tokens left to right'
+-- the byte at i, and those behind it
 pub drop-one : (s : List ℕ) (i : ℕ) → i < length s → drop i s ≡ getD s i 0 ∷ drop (i + 1) s
 drop-one s i h = rw (add-one i) (drop-cons s i 0 h)
 
@@ -24,7 +24,7 @@ slice-snoc s f i h h′ = rw (add-one i, take-suc s i 0 h′) (drop-append-le f 
 pub slice-one : (s : List ℕ) (i q : ℕ) → i < q → q ≤ length s → slice i q s ≡ getD s i 0 ∷ slice (i + 1) q s
 slice-one s i q h h′ = rw (add-one i) (slice-cons i q s 0 h h′)
 
--- behind the part from p up to q stands what is behind q: for 'tokens left to right'
+-- behind the part from p up to q stands what is behind q
 pub drop-behind : (s : List ℕ) (p q : ℕ) → p ≤ q → drop (q - p) (drop p s) ≡ drop q s
 drop-behind s p q h = let e : p + (q - p) ≡ q = omega arith in drop-drop (q - p) p s ∙ ap (λ (k : ℕ). drop k s) e
 

@@ -48,7 +48,7 @@ short table list = ltb (length table) tableWords || ltb (length list) listWords
 -- ---- one budget or two
 
 -- a finished answer had a budget that covers the list
-covers : {v b w c : List ℕ} {budget : ℕ} {table list : List ℕ} {verdict : Bool} {i j steps : ℕ} {r : Outcome} (m : Match v b w c budget table list r) → FinishedAs verdict i j steps r → length (m .order) ≤ budget
+pub covers : {v b w c : List ℕ} {budget : ℕ} {table list : List ℕ} {verdict : Bool} {i j steps : ℕ} {r : Outcome} (m : Match v b w c budget table list r) → FinishedAs verdict i j steps r → length (m .order) ≤ budget
 covers {budget = budget} {r = r} m (count, e) = go (decLt budget (length (m .order)))
   where
     go : Dec (budget < length (m .order)) → length (m .order) ≤ budget

@@ -3,3 +3,4 @@ pub mod Sizes
 pub mod Slots
 pub mod Making
 pub mod Budgets
+pub mod Calls

@@ -8,3 +8,4 @@ pub mod Answering
 pub mod Continuing
 pub mod Fronts
 pub mod Laws
+pub mod Statements

@@ -8,12 +8,12 @@ use lib.Dec.{ltb}
 use Rattle.syntax.specs.Bounds.{maxNodes}
 use Rattle.syntax.specs.Tree.{own, other, Ad, nodes}
 use Rattle.graph.specs.Graph.{Graph}
-use Rattle.links.specs.Pair.{Link, inside, across, linked, numbered, both, requirements, rank, definitionAt}
+use Rattle.links.specs.Pair.{inside, across, linked, numbered, both, requirements, rank, definitionAt}
 use Rattle.trees.specs.Nodes.{Node, leaf, refers, ofOne, ofTwo, ofThree, nodesIn}
 
 -- what a node of the ad a leads to, a′ being the other: 'An operator leads to all its operands, arms not taken included'; 'A
 -- reference leads to its definition'; '`name` finds its definition in its own ad, `other.name` in the other'
-unfoldable pub leads : Ad → Ad → Node → List Link
+unfoldable pub leads : Ad → Ad → Node → List (Bool × ℕ)
 leads a a′ (leaf l) = []
 leads a a′ (refers own w) = map inside (definitionAt 0 w a)
 leads a a′ (refers other w) = map across (definitionAt 0 w a′)
@@ -31,14 +31,14 @@ isReference (ofThree i j k) = false
 
 -- what node i of the ad a leads to; nothing where it has no such node: 'An operator leads to all its operands .. A reference leads to
 -- its definition.'
-unfoldable pub leadsFrom : Ad → Ad → ℕ → List Link
+unfoldable pub leadsFrom : Ad → Ad → ℕ → List (Bool × ℕ)
 leadsFrom a a′ i = getD (map (leads a a′) (nodesIn 0 a)) i []
 
--- whether node i of the ad a is a reference: for 'A reference that leads, in one or more steps, back to itself'
+-- whether node i of the ad a is a reference
 unfoldable pub isReferenceAt : Ad → ℕ → Bool
 isReferenceAt a i = getD (map isReference (nodesIn 0 a)) i false
 
--- the own node of a name's definition, numbered: one or none, for 'those that exist'
+-- the own node of a name's definition, numbered: one or none
 abbrev pub rootOf : Bool → List ℕ → Ad → List ℕ
 rootOf second name a = map (numbered second) (definitionAt 0 name a)
 

@@ -19,8 +19,7 @@ pub data Node : Type 0 where
   ofTwo : Binary → ℕ → ℕ → Node
   ofThree : ℕ → ℕ → ℕ → Node
 
--- the number of an expression's own node, where the first of its nodes has the number n: it is the last of them (docs/LAYOUT.md:
--- 'Layouts are the team's, written in docs/')
+-- the number of an expression's own node, where the first of its nodes has the number n: it is the last of them (docs/LAYOUT.md)
 abbrev pub lastOf : ℕ → Expr → ℕ
 lastOf n e = n + size e - 1
 
@@ -35,13 +34,12 @@ nodesOf n (conditional a b c) =
     nodesOf n a ++ (nodesOf (n + size a) b ++ (nodesOf (n + size a + size b) c
     ++ ofThree (lastOf n a) (lastOf (n + size a) b) (lastOf (n + size a + size b) c) ∷ []))
 
--- the nodes of an ad, the first of which has the number n: definition after definition, for 'Two trees are equal when definitions,
--- order, names as written, kinds and literals are equal.'
+-- the nodes of an ad, the first of which has the number n: definition after definition
 unfoldable pub nodesIn : ℕ → Ad → List Node
 nodesIn n [] = []
 nodesIn n (d ∷ ds) = nodesOf n (d .expression) ++ nodesIn (n + size (d .expression)) ds
 
--- node i of an ad, for i below the count of its nodes: for 'a side and a node'
+-- node i of an ad, for i below the count of its nodes
 abbrev pub nthNode : Ad → ℕ → Node
 nthNode a i = getD (nodesIn 0 a) i (leaf undefined)
 
@@ -55,7 +53,7 @@ operandsOf (ofThree i j k) = i ∷ j ∷ k ∷ []
 
 -- ---- as it is stored
 
--- the four words of a node whose bytes are stored from o on (docs/LAYOUT.md: 'Layouts are the team's, written in docs/')
+-- the four words of a node whose bytes are stored from o on (docs/LAYOUT.md)
 unfoldable pub wordsOf : ℕ → Node → List ℕ
 wordsOf o (leaf l) = literalNode o l
 wordsOf o (refers s w) = node (scopeKind s) o (length w) 0

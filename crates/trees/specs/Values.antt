@@ -32,7 +32,7 @@ Denotes second b (tree.integer n) v = (v ≡ Integer n) × (signed width n ≡ p
 Denotes second b (tree.real n places) v = v ≡ Real (literalReal n places)
 Denotes second b (tree.string l) v = (o : ℕ) × (v ≡ String second o (length l)) × (bytesAt b o (length l) ≡ l)
 
--- the ad of a side, of the second where it is true: for 'The two sides are distinct'
+-- the ad of a side, of the second where it is true
 abbrev pub adOf : Ad → Ad → Bool → Ad
 adOf a a′ second = cond second a′ a
 

@@ -43,6 +43,6 @@ Sized (Integer x) = x < 2 ^ width
 Sized (Real x) = T (fits binary64 x)
 Sized (String side offset length) = (offset < 2 ^ 16) × (length < 2 ^ 16)
 
--- the same value where the two ads are exchanged: for 'String values are literals of either ad'
+-- the same value where the two ads are exchanged
 abbrev pub turned : Value → Value
 turned = kinds Undefined Error (λ b. Boolean b) (λ x. Integer x) (λ x. Real x) (λ side offset length. String (not side) offset length)

@@ -13,11 +13,11 @@ use Rattle.text.specs.Bytes.{startsName, continuesName}
 use Rattle.syntax.specs.Tree.{Definition, Ad, size, nodes}
 use Rattle.syntax.specs.Token.{reserved}
 use Rattle.syntax.specs.Print.{levelOf}
-use Rattle.lexemes.specs.Lexeme.{every, isOneOf, isName}
+use Rattle.lexemes.specs.Inner.Lexeme.{every, isOneOf, isName}
 use Rattle.ad.specs.Layout.{exprBytes, adBytes}
 use Rattle.ad.specs.Stored.{offsetAt, lengthAt, rootAt, bytesAt}
 use Rattle.ad.specs.Laws.Content.{size-some}
-use Rattle.well_formed.specs.Decode.{WalkOk, Room, all, none, standsAt, entryFits, adAt, rowsLength, SameAd, RowsRoom, RowsOk, rowBefore, RowsSmall}
+use Rattle.well_formed.specs.Inner.Decode.{WalkOk, Room, all, none, standsAt, entryFits, adAt, rowsLength, SameAd, RowsRoom, RowsOk, rowBefore, RowsSmall}
 use Rattle.well_formed.specs.Laws.Shapes.{and-left, and-right}
 use Rattle.well_formed.specs.Laws.Prints.{rows-one, rows-short}
 use Rattle.well_formed.specs.Laws.Definitions.{Table, AllAd, ad-sound}

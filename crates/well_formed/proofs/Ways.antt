@@ -8,7 +8,7 @@ use Rattle.syntax.specs.Tree.{Expr, unary, binary, conditional}
 use Rattle.syntax.specs.Print.{binds, printed, levelOf}
 use Rattle.ad.specs.Layout.{exprBytes}
 use Rattle.ad.specs.Stored.{kindAt, operandAt, unaryOf, binaryOf}
-use Rattle.well_formed.specs.Decode.{got, bad, shapeAt, leafAt, treeAt, Same, WalkOk, Room, unaryWalk, binaryWalk, conditionalWalk}
+use Rattle.well_formed.specs.Inner.Decode.{got, bad, shapeAt, leafAt, treeAt, Same, WalkOk, Room, unaryWalk, binaryWalk, conditionalWalk}
 use Rattle.well_formed.specs.Laws.Runs.{Stands, stands-inside}
 use Rattle.well_formed.specs.Laws.Shapes.{Facts, shape-facts}
 use Rattle.well_formed.specs.Laws.Leaves.{All, Run}

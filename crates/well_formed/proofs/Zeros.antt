@@ -5,9 +5,9 @@ use mathlib.Core.Path.{_≡_, refl, sym, _∙_}
 use mathlib.Core.Bool.{Bool, true, false, _&&_}
 use mathlib.Core.List.{List}
 use lib.ListN.{length, drop, getD}
-use Rattle.lexemes.specs.Lexeme.{every}
+use Rattle.lexemes.specs.Inner.Lexeme.{every}
 use Rattle.lexemes.proofs.Laws.{every-more, every-stop, every-end}
-use Rattle.well_formed.specs.Decode.{isZero}
+use Rattle.well_formed.specs.Inner.Decode.{isZero}
 
 -- the first i numbers are zero or not, and those behind decide the rest
 pub record Looked (s : List ℕ) (i : ℕ) (clear : Bool) : Type 0 where

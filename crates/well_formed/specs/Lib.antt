@@ -1,3 +1,3 @@
 pub mod WellFormed
-pub mod Decode
+pub mod Inner
 pub mod Laws

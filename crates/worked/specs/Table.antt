@@ -56,8 +56,7 @@ pub record Comes (r : Row) (v b w c : List ℕ) {budget : ℕ} {table list : Lis
   pub finishes : length (r .order) ≤ budget → o ≡ Finished (r .matched) (r .first-rank) (r .second-rank) (length (r .order)) (m .count)
   pub stops : budget < length (r .order) → o ≡ Unfinished budget (m .count)
 
--- a row holds: both texts are accepted, and every match of their stored ads, with any budget, comes to what the row says: for 'W1
--- to W12 stand as one statement over one table'
+-- a row holds: both texts are accepted, and every match of their stored ads, with any budget, comes to what the row says
 pub record Holds (r : Row) : Type 0 where
   pub first-ad : Ad
   pub second-ad : Ad

@@ -14,7 +14,7 @@ use Rattle.text.specs.Parts.{drop-one, sets-append}
 use Rattle.syntax.specs.Tree.{real, string}
 use Rattle.syntax.specs.Print.{decimal, escaped, escapedAll, literalText}
 use Rattle.lexemes.specs.Laws.Digits.{decimal-one, decimal-more, real-none, real-more}
-use Rattle.writer.specs.Put.{Puts, Near}
+use Rattle.writer.specs.Inner.Put.{Puts, Near}
 
 pub puts-byte : (b : ℕ) (o o′ : List ℕ) (at : ℕ) → o′ ≡ set o at b → Puts (b ∷ []) o at o′ (at + 1)
 puts-byte b o o′ at e = record { behind = refl; written = e }

@@ -7,7 +7,7 @@ ghost use Prim.Native.Nat.{_+_, _*_, _≤_, _<_};
 ghost use lib.ListN.{length, set};
 ghost use Rattle.syntax.specs.Tree.{real, string};
 ghost use Rattle.syntax.specs.Print.{decimal, escaped, literalText, binaryText, unaryText};
-ghost use Rattle.writer.specs.Put.{Puts, Near};
+ghost use Rattle.writer.specs.Inner.Put.{Puts, Near};
 
 // Writes a byte, if it fits in.
 pub fn put_byte(out: &mut [u8], at: usize, b: u8)

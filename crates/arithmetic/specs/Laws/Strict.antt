@@ -2,7 +2,7 @@
 use mathlib.Core.Path.{_≡_, refl}
 use Rattle.values.specs.declared.Value.{Value}
 use Rattle.values.specs.declared.Value.the-variants.{Undefined, Error, Boolean, Integer, Real, String}
-use Rattle.operands.specs.Operands.{operandsOf, numberOnly}
+use Rattle.operands.specs.Inner.Operands.{operandsOf, numberOnly}
 use Rattle.arithmetic.specs.declared.Arithmetic.{Arithmetic}
 use Rattle.arithmetic.specs.Arithmetic.{arithmeticResult, arithmeticValue}
 

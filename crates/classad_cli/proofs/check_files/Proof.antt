@@ -5,12 +5,13 @@ use Rattle.classad_cli.proofs.check_files.Statement.{statement}
 use Rattle.classad_cli.proofs.check_files.Tie as tie
 
 abbrev Inv-loop : tie.InvT-loop
-Inv-loop count i₀ i = Unit {0}
+Inv-loop out₀ count i₀ out i = Unit {0}
 
 abbrev μ-loop : tie.MeasureT-loop
-μ-loop count i₀ i = count - i
+μ-loop out₀ count i₀ out i = count - i
 
 pub check-files-spec : {M : Type 1} → statement M
 check-files-spec =
-    tie.close (tie.spec Inv-loop μ-loop (λ c. search needs) (λ c κs. search needs)
-    (λ c. search needs) (λ c. search needs) (λ c. search needs) (λ c. search needs))
+    tie.close (tie.spec Inv-loop μ-loop (λ c. search needs) (λ c. search needs)
+    (λ c κs. search needs) (λ c. search needs) (λ c. search needs) (λ c. search needs)
+    (λ c. search needs))

@@ -8,10 +8,10 @@ use native.Mathlib.Omega.{arith}
 use lib.ListN.{length, getD, replicate, length-replicate}
 use Rattle.graph.specs.Members.{numbers, raised}
 use Rattle.graph.specs.Graph.{Graph, Sound, needs}
-use Rattle.graph.specs.Transition.{recordedAs, led}
+use Rattle.graph.specs.Transition.{named, led}
 use Rattle.graph.specs.Laws.Traversal.{marks-back}
 use Rattle.links.specs.Pair.{Formed}
-use Rattle.marks.specs.Memory.{marksRoom, Clear}
+use Rattle.marks.specs.Inner.Memory.{marksRoom, Clear}
 use Rattle.dependency.specs.Traversal.{Ready, Traversed}
 
 pub clear-zeros : (n : ℕ) → Clear (replicate n 0)
@@ -45,6 +45,6 @@ pub needs-led : {G : Graph} → Sound G → {count len : ℕ} {ta fl ls : List �
 unfolding needs led
 needs-led {G} w {ta = ta} {fl = fl} t x = ap (λ (l : List ℕ). cond (raised fl x) [] l) (go (G .ref x) refl)
   where
-    go : (b : Bool) → G .ref x ≡ b → G .links x ≡ cond b (recordedAs G (getD ta x 0)) (G .links x)
-    go true e = sym (ap (recordedAs G) (t .resolved x e) ∙ marks-back G w (G .links x) (w .links-in x) (w .single x e))
+    go : (b : Bool) → G .ref x ≡ b → G .links x ≡ cond b (named G (getD ta x 0)) (G .links x)
+    go true e = sym (ap (named G) (t .resolved x e) ∙ marks-back G w (G .links x) (w .links-in x) (w .single x e))
     go false e = refl

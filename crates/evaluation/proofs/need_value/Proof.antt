@@ -7,6 +7,7 @@ use native.Mathlib.Omega.{arith}
 use Rattle.graph.specs.Members.{numbers}
 use Rattle.graph.specs.Transition.{led}
 use Rattle.links.specs.Pair.{pairGraph}
+use Rattle.links.specs.Laws.Numbering.{stands-small}
 use Rattle.slots.specs.Packed.{slotAt}
 use Rattle.evaluation.specs.Evaluation.{seen}
 use Rattle.evaluation.specs.Laws.Words.{need-circular, need-found, need-beyond}
@@ -21,12 +22,23 @@ returns c =
     (now (args .flag)) (args .x) (args .i) (λ y. seen (slotAt (now (args .table)) y))
     (c .if1 .taken)
 
+led-count-requires : tie.Need-led-count-requires
+led-count-requires c κs =
+    let start = c .before .before .before .before .before .before .before in (
+      start .pre .first-formed,
+      start .pre .second-formed,
+      stands-small (now (start .args .v)) (now (start .args .w)) (start .args .x)
+          (start .pre .node),
+      start .pre .target-room,
+    )
+
 led-to-requires : tie.Need-led-to-requires
 led-to-requires c κs =
     let start = c .before .before .before .before .before .before .before .before .before in (
       start .pre .first-formed,
       start .pre .second-formed,
-      start .pre .node,
+      stands-small (now (start .args .v)) (now (start .args .w)) (start .args .x)
+          (start .pre .node),
       start .pre .target-room,
       λ b d. subst (λ (n : ℕ). start .args .i < n) (c .before .led-count .ensures .0 b d)
           (c .if2 .taken),
@@ -51,5 +63,5 @@ returns-3 c =
 
 pub need-value-spec : {M : Type 1} → statement M
 need-value-spec =
-    tie.close (tie.spec (λ c. search needs) (λ c. search needs) returns (λ c κs. search needs)
+    tie.close (tie.spec (λ c. search needs) (λ c. search needs) returns led-count-requires
     led-to-requires (λ c κs. search needs) returns-2 returns-3)

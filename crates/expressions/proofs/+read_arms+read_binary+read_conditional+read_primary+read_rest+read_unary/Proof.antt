@@ -6,7 +6,7 @@ use lib.ListN.{length}
 use Rattle.syntax.specs.Token.{symbol, operator}
 use Rattle.syntax.specs.Grammar.{unaryToken}
 use Rattle.syntax.specs.declared.Symbol.the-variants.{Question, Colon, CloseParenthesis}
-use Rattle.leaves.specs.Marks.{mark, memory}
+use Rattle.leaves.specs.Inner.Marks.{mark, memory}
 use Rattle.expressions.proofs.Words.{more}
 use Rattle.leaves.proofs.Laws.{fewer-left}
 use Rattle.expressions.proofs.Laws.{conditional-refused, conditional-done, binary-unary, binary-refused, binary-done, rest-stop, rest-full, rest-refused, rest-more, arms-stop, arms-deep, arms-full, arms-first, arms-colon, arms-second, arms-done, unary-primary, unary-deep, unary-full, unary-refused, unary-done, primary-leaf, primary-no, primary-deep, primary-refused, primary-unclosed, primary-done, within-from}

@@ -5,8 +5,8 @@ use Prim.Native.Nat.{ℕ, _+_, _-_, _≤_, _<_}
 use lib.ListN.{length, drop, length-set}
 use lib.Seq.{sets}
 use Rattle.syntax.specs.Token.{bodyOf}
-use Rattle.lexer.specs.Meaning.{bytesOf}
-use Rattle.leaves.specs.Marks.{StringFrom}
+use Rattle.lexer.specs.Inner.Meaning.{bytesOf}
+use Rattle.leaves.specs.Inner.Marks.{StringFrom}
 use Rattle.leaves.proofs.Laws.{step-next, step-closed, step-broken, step-none, store-byte, shorter}
 use Rattle.leaves.proofs.copy_string.Statement.{statement}
 use Rattle.leaves.proofs.copy_string.Tie as tie

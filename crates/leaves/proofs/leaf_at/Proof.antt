@@ -1,6 +1,6 @@
 use native.Mathlib.Omega.{arith}
 use mathlib.Core.Path.{_≡_, refl, sym, ap, _∙_}
-use Rattle.leaves.specs.Marks.{mark, memory}
+use Rattle.leaves.specs.Inner.Marks.{mark, memory}
 use Rattle.syntax.specs.declared.Symbol.the-variants.{OpenParenthesis, Other}
 use Rattle.leaves.proofs.Laws.{own-within, own-exact, string-within, string-exact, constant-within, constant-exact, leaf-end, leaf-bad, leaf-operator, leaf-symbol, leaf-open, leaf-other, leaf-further, symbol-is, stands-of, string-from, fewer-left}
 use borrow.Author.Needs.{needs}

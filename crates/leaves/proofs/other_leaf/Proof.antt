@@ -1,5 +1,5 @@
 use native.Mathlib.Omega.{arith}
-use Rattle.leaves.specs.Marks.{mark, memory}
+use Rattle.leaves.specs.Inner.Marks.{mark, memory}
 use Rattle.leaves.proofs.Laws.{other-full, other-no-point, other-no-name, other-exact, other-within}
 use borrow.Author.Needs.{needs}
 use Rattle.leaves.proofs.other_leaf.Statement.{statement}

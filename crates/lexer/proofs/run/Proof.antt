@@ -6,7 +6,7 @@ use mathlib.Core.List.{_++_}
 use lib.ListN.{length, drop}
 use lib.Seq.{slice}
 use Rattle.syntax.specs.Token.{frontOf}
-use Rattle.lexer.specs.Meaning.{classOf}
+use Rattle.lexer.specs.Inner.Meaning.{classOf}
 use Rattle.lexer.proofs.Laws.{run-start, run-step, run-stop, run-end}
 use Rattle.lexer.proofs.run.Statement.{statement}
 use Rattle.lexer.proofs.run.Tie as tie

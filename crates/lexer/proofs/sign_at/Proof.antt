@@ -1,5 +1,5 @@
 use mathlib.Core.Path.{refl, sym, _∙_, ap}
-use Rattle.lexer.specs.Meaning.{signFront}
+use Rattle.lexer.specs.Inner.Meaning.{signFront}
 use Rattle.lexer.proofs.Laws.{sign-long, sign-short}
 use borrow.Author.Needs.{needs}
 use Rattle.lexer.proofs.sign_at.Statement.{statement}

@@ -4,7 +4,7 @@ use Prim.Native.Nat.{_≤_, _-_}
 use mathlib.Core.Path.{_≡_, refl, sym, _∙_}
 use lib.ListN.{length}
 use lib.Seq.{slice}
-use Rattle.lexer.specs.Meaning.{valueTo, cap}
+use Rattle.lexer.specs.Inner.Meaning.{valueTo, cap}
 use Rattle.lexer.proofs.Laws.{value-step, value-end}
 use Rattle.lexer.proofs.value.Statement.{statement}
 use Rattle.lexer.proofs.value.Tie as tie

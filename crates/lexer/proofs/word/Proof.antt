@@ -6,7 +6,7 @@ use Rattle.syntax.specs.Token.{next, wordIn, reserved}
 use Rattle.text.specs.Parts.{part-slice}
 use lib.ListN.{take, drop}
 use Prim.Native.Nat.{_-_}
-use Rattle.lexer.specs.Meaning.{tokensAt}
+use Rattle.lexer.specs.Inner.Meaning.{tokensAt}
 use Rattle.lexer.proofs.Laws.{word-true, word-false, word-undefined, word-error, word-is, word-isnt, word-parent, word-other, word-name}
 use borrow.Author.Needs.{needs}
 use Rattle.lexer.proofs.word.Statement.{statement}

@@ -1,5 +1,5 @@
 use denote.Ref.{now}
-use Rattle.links.specs.Laws.Numbering.{stands-first, stands-second, found-first, found-second}
+use Rattle.links.specs.Laws.Numbering.{stands-first, stands-second, stands-small, found-first, found-second}
 use borrow.Author.Needs.{needs}
 use Rattle.links.proofs.found_at.Statement.{statement}
 use Rattle.links.proofs.found_at.Tie as tie
@@ -23,7 +23,9 @@ returns c =
     let e-if1 = c .before .if1 in
     let s = c .before .before .before .before .before .before .before in
     found-first (now (s .args .v)) (now (s .args .b)) (now (s .args .w)) (now (s .args .c))
-    (s .args .x) (s .pre .0 .2) (e-if1 .taken) (e-found-from .ensures)
+    (s .args .x) (s .pre .0 .0 .formed) (s .pre .0 .1 .formed)
+    (stands-small (now (s .args .v)) (now (s .args .w)) (s .args .x) (s .pre .0 .2)) (e-if1 .taken)
+    (e-found-from .ensures)
 
 found-from-requires-2 : tie.Need-found-from-requires-2
 found-from-requires-2 c κs =
@@ -42,7 +44,9 @@ returns-2 c =
     let e-found-from2 = c .found-from2 in
     let s = c .before .before .before .before .before .before .before in
     found-second (now (s .args .v)) (now (s .args .b)) (now (s .args .w)) (now (s .args .c))
-    (s .args .x) (s .pre .0 .2) (search needs) (e-found-from2 .ensures)
+    (s .args .x) (s .pre .0 .0 .formed) (s .pre .0 .1 .formed)
+    (stands-small (now (s .args .v)) (now (s .args .w)) (s .args .x) (s .pre .0 .2)) (search needs)
+    (e-found-from2 .ensures)
 
 pub found-at-spec : {M : Type 1} → statement M
 found-at-spec = tie.close (tie.spec

@@ -1,25 +1,23 @@
 use Rattle.links.specs.Laws.Numbering.{arity-fits}
 use denote.Ref.{now}
-use Rattle.links.specs.Laws.Numbering.{stands-small, count-none, count-far, count-one, count-operands}
+use Rattle.links.specs.Laws.Numbering.{count-none, count-far, count-one, count-operands}
 use borrow.Author.Needs.{needs}
 use Rattle.links.proofs.led_count.Statement.{statement}
 use Rattle.links.proofs.led_count.Tie as tie
 
 kind-of-requires : tie.Need-kind-of-requires
 kind-of-requires c κs =
-    let start = c .before .before .before in (
-      stands-small (now (start .args .v)) (now (start .args .w)) (start .args .x) (start .pre .2),
-      start .pre .0 .words-room,
-      start .pre .1 .words-room,
-    )
+    let start = c .before .before .before in
+    (start .pre .2, start .pre .0 .words-room, start .pre .1 .words-room)
 
 returns : tie.Need-returns
 returns c =
     let b3 = c .before .before .before in
     let start = b3 .before .before .before .before .before in (
       λ b d. count-none (now (start .args .v)) b (now (start .args .w)) d (start .args .x)
-          (start .pre .2) (b3 .before .kind-of .ensures) (b3 .is-reference .ensures)
-          (now (start .args .target)) (c .before .before .if1 .taken) (c .if2 .taken),
+          (start .pre .0) (start .pre .1) (start .pre .2) (b3 .before .kind-of .ensures)
+          (b3 .is-reference .ensures) (now (start .args .target)) (c .before .before .if1 .taken)
+          (c .if2 .taken),
       search needs,
     )
 
@@ -28,8 +26,9 @@ returns-2 c =
     let b4 = c .before .before .before .before in
     let start = b4 .before .before .before .before .before .before in (
       λ b d. count-far (now (start .args .v)) b (now (start .args .w)) d (start .args .x)
-          (start .pre .2) (b4 .before .before .kind-of .ensures) (b4 .before .is-reference .ensures)
-          (now (start .args .target)) (b4 .if1 .taken) (search needs),
+          (start .pre .0) (start .pre .1) (start .pre .2) (b4 .before .before .kind-of .ensures)
+          (b4 .before .is-reference .ensures) (now (start .args .target)) (b4 .if1 .taken)
+          (search needs),
       search needs,
     )
 
@@ -38,9 +37,9 @@ returns-3 c =
     let b4 = c .before .before .before .before in
     let start = b4 .before .before .before .before .before .before in (
       λ b d. count-one (now (start .args .v)) b (now (start .args .w)) d (start .args .x)
-          (start .pre .2) (b4 .before .before .kind-of .ensures) (b4 .before .is-reference .ensures)
-          (now (start .args .target)) (b4 .if1 .taken) (c .before .before .if2 .left)
-          (search needs),
+          (start .pre .0) (start .pre .1) (start .pre .2) (b4 .before .before .kind-of .ensures)
+          (b4 .before .is-reference .ensures) (now (start .args .target)) (b4 .if1 .taken)
+          (c .before .before .if2 .left) (search needs),
       search needs,
     )
 
@@ -49,8 +48,9 @@ returns-4 c =
     let b2 = c .before .before in
     let start = b2 .before .before .before .before .before in (
       λ b d. count-operands (now (start .args .v)) b (now (start .args .w)) d (start .args .x)
-          (start .pre .2) (b2 .before .kind-of .ensures) (b2 .is-reference .ensures)
-          (now (start .args .target)) (c .before .if1 .left) (c .operands .ensures),
+          (start .pre .0) (start .pre .1) (start .pre .2) (b2 .before .kind-of .ensures)
+          (b2 .is-reference .ensures) (now (start .args .target)) (c .before .if1 .left)
+          (c .operands .ensures),
       arity-fits _ (c .operands .ensures),
     )
 

@@ -246,9 +246,9 @@ module _ (N M : ℕ) (xs ds : List ℕ) (fits : length xs ≤ N) (fits′ : leng
     memory-operands : (i : ℕ) → i < m → Each (λ y. y < i) (operands memory i)
     memory-operands i h = rw front (λ y k. let q : y < 0 + i = nodes-operands d _ i h y k in omega arith)
 
-    memory-end : 4 * m < N → kindAt memory m ≡ 0
+    memory-end : (i : ℕ) → m ≤ i → 4 * i < N → kindAt memory i ≡ 0
     unfolding memory
-    memory-end h = padded-zero N (4 * m) xs _ (let e = nodes-length d in omega arith) h
+    memory-end i l h = padded-zero N (4 * i) xs _ (let e = nodes-length d in omega arith) h
 
   module _ (top m : ℕ) (d : Definitions top ds m) where
     memory-length : (j : ℕ) → j < m → getD memory (N + 3 * j + 1) 0 ≢ 0
@@ -276,11 +276,6 @@ leading-all : (f : ℕ → ℕ) (n k : ℕ) → n ≤ k → ((j : ℕ) → j < n
 leading-all f n k h a b =
     leading-is f n 0 k h (λ j lt. subst (λ (u : ℕ). f u ≢ 0) (let q : j ≡ 0 + j = omega arith in q) (a j lt))
     (λ lt. subst (λ (u : ℕ). f u ≡ 0) (let q : n ≡ 0 + n = omega arith in q) (b lt))
-
-few-named : (a : Ad) → length a ≤ nodes a
-unfolding nodes
-few-named [] = le-refl 0
-few-named (d ∷ ds) = let h = few-named ds in let k = size-some (d .expression) in omega arith
 
 module _ (a : Ad) (few : nodes a ≤ maxNodes) (fewer : length a ≤ maxDefinitions) (named : Named a) where
   xs : List ℕ
@@ -313,7 +308,7 @@ module _ (a : Ad) (few : nodes a ≤ maxNodes) (fewer : length a ≤ maxDefiniti
       rw stored-is
       (leading-all (kindAt (memory nodeWords (adWords - nodeWords) xs ds fits fits′)) (nodes a) maxNodes few
       (memory-kind nodeWords (adWords - nodeWords) xs ds fits fits′ (nodes a) block)
-      (λ lt. memory-end nodeWords (adWords - nodeWords) xs ds fits fits′ (nodes a) block (omega arith)))
+      (λ lt. memory-end nodeWords (adWords - nodeWords) xs ds fits fits′ (nodes a) block (nodes a) (le-refl (nodes a)) (omega arith)))
 
   pub stored-definitions : definitionCount (storedWords a) ≡ length a
   unfolding definitionCount
@@ -335,9 +330,10 @@ module _ (a : Ad) (few : nodes a ≤ maxNodes) (fewer : length a ≤ maxDefiniti
     words-room = rw stored-is (let e = memory-long nodeWords (adWords - nodeWords) xs ds fits fits′ in omega arith);
     operands-below = λ i h. subst (λ (m : List ℕ). Each (λ y. y < i) (operands m i)) (sym stored-is)
         (memory-operands nodeWords (adWords - nodeWords) xs ds fits fits′ (nodes a) block i (rw stored-nodes at h));
+    unused-clear = λ i l h. subst (λ (m : List ℕ). kindAt m i ≡ 0) (sym stored-is)
+        (memory-end nodeWords (adWords - nodeWords) xs ds fits fits′ (nodes a) block i (rw stored-nodes at l) (omega arith));
     roots-in = λ j h. rw stored-nodes (subst (λ (m : List ℕ). rootAt m j < nodes a) (sym stored-is)
         (memory-root nodeWords (adWords - nodeWords) xs ds fits fits′ (nodes a) (length a) table j (rw stored-definitions at h)));
-    definitions-few = rw (stored-nodes, stored-definitions) (few-named a);
   }
 
 -- a stored ad within the bounds is well formed

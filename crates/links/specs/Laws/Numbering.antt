@@ -12,8 +12,8 @@ use lib.Dec.{ltb}
 use Rattle.graph.specs.Members.{_∈_}
 use Rattle.graph.specs.Laws.Members.{eqb-yes, eqb-no, ltb-yes, ltb-no, ltb-true, at-mem}
 use Rattle.graph.specs.Graph.{Graph}
-use Rattle.graph.specs.Transition.{led, needed, recordedAs, marked}
-use Rattle.ad.specs.Stored.{kindAt, operandAt, rootAt, nameAt, nodeCount, arity, operands, isOwn, isOther, isReference, find}
+use Rattle.graph.specs.Transition.{led, needed, named, marked}
+use Rattle.ad.specs.Stored.{kindAt, operandAt, nameAt, nodeCount, arity, operands, isOwn, isOther, isReference, find}
 use Rattle.links.specs.Pair.{numbered, linked, inside, across, linksFrom, refersAt, both, pairGraph, Formed, Measured, Stands}
 use Rattle.links.specs.Laws.Counting.{nodes-few, definitions-few, arity-few}
 use Rattle.links.specs.Laws.Soundness.{both-low, both-high}
@@ -68,8 +68,20 @@ operands-at w j i h =
     go (suc (suc zero)) k = refl
     go (suc (suc (suc n))) k = absurd (let q : ⊥ = omega arith in q)
 
-operand-below : (w : List ℕ) → Formed w → (j i : ℕ) → j < nodeCount w → i < arity (kindAt w j) → operandAt w j i < j
-operand-below w f j i h k =
+-- a slot with operands has a node
+arity-stands : (w : List ℕ) → Formed w → (j i : ℕ) → j < 1024 → i < arity (kindAt w j) → j < nodeCount w
+unfolding arity
+arity-stands w f j i h k = go (decLt j (nodeCount w))
+  where
+    go : Dec (j < nodeCount w) → j < nodeCount w
+    go (yes l) = l
+    go (no n) =
+        let e : kindAt w j ≡ 0 = f .unused-clear j (let a : ¬ (j < nodeCount w) = n in omega arith) h in
+        absurd (let z : i < 0 = rw e at k in let q : ⊥ = omega arith in q)
+
+operand-below : (w : List ℕ) → Formed w → (j i : ℕ) → j < 1024 → i < arity (kindAt w j) → operandAt w j i < j
+operand-below w f j i l k =
+    let h = arity-stands w f j i l k in
     let m : getD (operands w j) i 0 ∈ operands w j = at-mem (operands w j) i (rw (operands-long w j) k) in
     rw (operands-at w j i k) at (f .operands-below j h _ m)
 
@@ -93,7 +105,7 @@ or-none true b e = absurd (never (sym e))
 or-none false b e = (refl, e)
 
 module _ (w b w′ b′ : List ℕ) (s : Bool) (j : ℕ) (h : j < nodeCount w) where
-  pub links-operator : isReference (kindAt w j) ≡ false → map (linked s) (linksFrom w b w′ b′ j) ≡ map (numbered s) (operands w j)
+  links-operator : isReference (kindAt w j) ≡ false → map (linked s) (linksFrom w b w′ b′ j) ≡ map (numbered s) (operands w j)
   unfolding linksFrom
   links-operator e =
       let q = or-none (isOwn (kindAt w j)) (isOther (kindAt w j)) e in
@@ -130,19 +142,48 @@ module _ (w b w′ b′ : List ℕ) (s : Bool) (j : ℕ) (h : j < nodeCount w) w
       let f′ : kindAt w j ≢ 8 = λ q. f (p ∙ q) in
       rw (eqb-no e′, eqb-no f′) refl
 
+-- ---- any slot
+
+-- a slot without a node has no operands, and refers to nothing
+unused-operands : (w : List ℕ) (j : ℕ) → kindAt w j ≡ 0 → operands w j ≡ []
+unfolding operands arity
+unused-operands w j e = rw e refl
+
+unused-links : (w b w′ b′ : List ℕ) (j : ℕ) → nodeCount w ≤ j → linksFrom w b w′ b′ j ≡ []
+unfolding linksFrom
+unused-links w b w′ b′ j h = rw (ltb-no h) refl
+
+module _ (w : List ℕ) (f : Formed w) (j : ℕ) (h : j < 1024) where
+  refers-is : refersAt w j ≡ isReference (kindAt w j)
+  unfolding refersAt
+  refers-is = go (decLt j (nodeCount w))
+    where
+      go : Dec (j < nodeCount w) → (ltb j (nodeCount w) && isReference (kindAt w j)) ≡ isReference (kindAt w j)
+      go (yes l) = rw (ltb-yes l) refl
+      go (no n) = let l : nodeCount w ≤ j = let a : ¬ (j < nodeCount w) = n in omega arith in rw (ltb-no l, f .unused-clear j l h) refl
+
+  links-slot : (b w′ b′ : List ℕ) (s : Bool) → isReference (kindAt w j) ≡ false → map (linked s) (linksFrom w b w′ b′ j) ≡ map (numbered s) (operands w j)
+  links-slot b w′ b′ s e = go (decLt j (nodeCount w))
+    where
+      go : Dec (j < nodeCount w) → map (linked s) (linksFrom w b w′ b′ j) ≡ map (numbered s) (operands w j)
+      go (yes l) = links-operator w b w′ b′ s j l e
+      go (no n) =
+          let l : nodeCount w ≤ j = let a : ¬ (j < nodeCount w) = n in omega arith in
+          ap (map (linked s)) (unused-links w b w′ b′ j l) ∙ sym (ap (map (numbered s)) (unused-operands w j (f .unused-clear j l h)))
+
 -- ---- the pair's graph
 
-module _ (v b w c : List ℕ) (x : ℕ) (s : Stands v w x) where
+module _ (v b w c : List ℕ) (x : ℕ) (fv : Formed v) (fw : Formed w) (small : x < 2048) where
   pub ref-is : pairGraph v b w c .ref x ≡ isReference (both (kindAt v) (kindAt w) x)
-  unfolding pairGraph refersAt
+  unfolding pairGraph
   ref-is = go (decLt x 1024)
     where
-      go : Dec (x < 1024) → both (λ i. ltb i (nodeCount v) && isReference (kindAt v i)) (λ i. ltb i (nodeCount w) && isReference (kindAt w i)) x ≡ isReference (both (kindAt v) (kindAt w) x)
+      go : Dec (x < 1024) → both (refersAt v) (refersAt w) x ≡ isReference (both (kindAt v) (kindAt w) x)
       go (yes h) =
-          both-low _ _ x h ∙ rw (ltb-yes (stands-first v w x s h)) refl ∙ ap isReference (sym (both-low (kindAt v) (kindAt w) x h))
+          both-low _ _ x h ∙ refers-is v fv x h ∙ ap isReference (sym (both-low (kindAt v) (kindAt w) x h))
       go (no n) =
           let h : 1024 ≤ x = let a : ¬ (x < 1024) = n in omega arith in
-          both-high _ _ x h ∙ rw (ltb-yes (stands-second v w x s h)) refl ∙ ap isReference (sym (both-high (kindAt v) (kindAt w) x h))
+          both-high _ _ x h ∙ refers-is w fw (x - 1024) (omega arith) ∙ ap isReference (sym (both-high (kindAt v) (kindAt w) x h))
 
   -- the recorded target of a reference
   pub found-first : {r : ℕ} → x < 1024 → r ≡ cond (isReference (kindAt v x)) (marked (map (linked false) (linksFrom v b w c x))) 0 →
@@ -163,7 +204,7 @@ module _ (v b w c : List ℕ) (x : ℕ) (s : Stands v w x) where
   ref-test ke te = te ∙ ap isReference ke ∙ sym ref-is
 
   module _ {k : ℕ} {t : Bool} (ke : k ≡ both (kindAt v) (kindAt w) x) (te : t ≡ isReference k) (ta : List ℕ) where
-    led-recorded : t ≡ true → led (pairGraph v b w c) (numbers ta) x ≡ recordedAs (pairGraph v b w c) (getD ta x 0)
+    led-recorded : t ≡ true → led (pairGraph v b w c) (numbers ta) x ≡ named (pairGraph v b w c) (getD ta x 0)
     unfolding led
     led-recorded e = rw (sym (ref-test ke te) ∙ e) refl
 
@@ -171,19 +212,19 @@ module _ (v b w c : List ℕ) (x : ℕ) (s : Stands v w x) where
     unfolding led
     led-links e = rw (sym (ref-test ke te) ∙ e) refl
 
-    recorded-far : (u : ℕ) → 2048 < u → recordedAs (pairGraph v b w c) u ≡ []
-    unfolding recordedAs pairGraph
+    recorded-far : (u : ℕ) → 2048 < u → named (pairGraph v b w c) u ≡ []
+    unfolding named pairGraph
     recorded-far zero h = refl
     recorded-far (suc y) h = rw (ltb-no (let q : 2048 ≤ y = omega arith in q)) refl
 
-    recorded-near : (u : ℕ) → u ≢ 0 → u ≤ 2048 → recordedAs (pairGraph v b w c) u ≡ (u - 1) ∷ []
-    unfolding recordedAs pairGraph
+    recorded-near : (u : ℕ) → u ≢ 0 → u ≤ 2048 → named (pairGraph v b w c) u ≡ (u - 1) ∷ []
+    unfolding named pairGraph
     recorded-near zero n h = absurd (n refl)
     recorded-near (suc y) n h = rw (ltb-yes (let q : y < 2048 = omega arith in q)) (ap (λ (z : ℕ). z ∷ []) (let q : y ≡ suc y - 1 = omega arith in q))
 
     pub count-none : t ≡ true → getD ta x 0 ≡ 0 → 0 ≡ length (led (pairGraph v b w c) (numbers ta) x)
-    unfolding recordedAs
-    count-none e z = sym (ap length (led-recorded e ∙ ap (recordedAs (pairGraph v b w c)) z))
+    unfolding named
+    count-none e z = sym (ap length (led-recorded e ∙ ap (named (pairGraph v b w c)) z))
 
     pub count-far : t ≡ true → 2048 < getD ta x 0 → 0 ≡ length (led (pairGraph v b w c) (numbers ta) x)
     count-far e z = sym (ap length (led-recorded e ∙ recorded-far (getD ta x 0) z))
@@ -192,8 +233,8 @@ module _ (v b w c : List ℕ) (x : ℕ) (s : Stands v w x) where
     count-one e z h = sym (ap length (led-recorded e ∙ recorded-near (getD ta x 0) z h))
 
     -- a target that leads somewhere is the number of a slot
-    target-at : (u i : ℕ) → i < length (recordedAs (pairGraph v b w c) u) → (1 ≤ u) × (u ≤ 2048) × (u - 1 ≡ getD (recordedAs (pairGraph v b w c) u) i 0)
-    unfolding recordedAs pairGraph
+    target-at : (u i : ℕ) → i < length (named (pairGraph v b w c) u) → (1 ≤ u) × (u ≤ 2048) × (u - 1 ≡ getD (named (pairGraph v b w c) u) i 0)
+    unfolding named pairGraph
     target-at zero i h = absurd (let q : ⊥ = omega arith in q)
     target-at (suc y) i h = go (decLt y 2048) i h
       where
@@ -213,13 +254,13 @@ module _ (v b w c : List ℕ) (x : ℕ) (s : Stands v w x) where
     unfolding pairGraph
     links-first e h =
         led-links e ∙ both-low _ _ x h
-        ∙ links-operator v b w c false x (stands-first v w x s h) (ap isReference (sym (ke ∙ both-low (kindAt v) (kindAt w) x h)) ∙ sym te ∙ e)
+        ∙ links-slot v fv x h b w c false (ap isReference (sym (ke ∙ both-low (kindAt v) (kindAt w) x h)) ∙ sym te ∙ e)
 
     links-second : t ≡ false → 1024 ≤ x → led (pairGraph v b w c) (numbers ta) x ≡ map (numbered true) (operands w (x - 1024))
     unfolding pairGraph
     links-second e h =
         led-links e ∙ both-high _ _ x h
-        ∙ links-operator w c v b true (x - 1024) (stands-second v w x s h) (ap isReference (sym (ke ∙ both-high (kindAt v) (kindAt w) x h)) ∙ sym te ∙ e)
+        ∙ links-slot w fw (x - 1024) (omega arith) c v b true (ap isReference (sym (ke ∙ both-high (kindAt v) (kindAt w) x h)) ∙ sym te ∙ e)
 
     numbers-long : (f : ℕ → ℕ) (u : List ℕ) (j : ℕ) → length (map f (operands u j)) ≡ arity (kindAt u j)
     numbers-long f u j = length-map (operands u j) f ∙ operands-long u j
@@ -251,24 +292,21 @@ module _ (v b w c : List ℕ) (x : ℕ) (s : Stands v w x) where
               let d = arity-few (kindAt w (x - 1024)) in
               omega arith
 
-      pub to-below : Formed w → 1024 ≤ x → operandAt w (x - 1024) i < 1024
-      to-below f h =
-          let a = operand-below w f (x - 1024) i (stands-second v w x s h) (second-lt h) in
-          let d = stands-small v w x s in
-          omega arith
+      pub to-below : 1024 ≤ x → operandAt w (x - 1024) i < 1024
+      to-below h = let a = operand-below w fw (x - 1024) i (omega arith) (second-lt h) in omega arith
 
-      pub to-small : Formed v → Formed w → {r : ℕ} → r ≡ both (λ j. operandAt v j i) (λ j. 1024 + operandAt w j i) x → r < 2048
-      to-small f g {r} q = go (decLt x 1024)
+      pub to-small : {r : ℕ} → r ≡ both (λ j. operandAt v j i) (λ j. 1024 + operandAt w j i) x → r < 2048
+      to-small {r} q = go (decLt x 1024)
         where
           go : Dec (x < 1024) → r < 2048
           go (yes h) =
               let a : r ≡ operandAt v x i = q ∙ both-low _ _ x h in
-              let d = operand-below v f x i (stands-first v w x s h) (first-lt h) in
+              let d = operand-below v fv x i h (first-lt h) in
               omega arith
           go (no n) =
               let h : 1024 ≤ x = let a : ¬ (x < 1024) = n in omega arith in
               let a : r ≡ 1024 + operandAt w (x - 1024) i = q ∙ both-high _ _ x h in
-              let d = to-below g h in
+              let d = to-below h in
               omega arith
 
       pub to-operand : {r : ℕ} → r ≡ both (λ j. operandAt v j i) (λ j. 1024 + operandAt w j i) x → r ≡ getD (led (pairGraph v b w c) (numbers ta) x) i 0
@@ -326,13 +364,6 @@ module _ {w : List ℕ} {n d : ℕ} (p : Measured w n d) where
 
   pub nodes-fit : n ≤ 1024
   nodes-fit = let a = p .nodes-are in let b = nodes-few w in omega arith
-
-  pub root-fits : (j : ℕ) {y : ℕ} → j < d → y ≡ rootAt w j → y < 1024
-  root-fits j {y} h e =
-      let a = p .definitions-are in
-      let b = p .formed .roots-in j (omega arith) in
-      let c = nodes-few w in
-      omega arith
 
 pub measured-self : {w : List ℕ} {n d : ℕ} → Measured w n d → Measured w (nodeCount w) d
 measured-self p = record { formed = p .formed; nodes-are = refl; definitions-are = p .definitions-are }

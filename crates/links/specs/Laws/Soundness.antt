@@ -13,7 +13,7 @@ use Rattle.graph.specs.Members.{_∈_, here, there, Each}
 use Rattle.graph.specs.Laws.Members.{mem-nil, mem-cons, mem-append, ltb-yes, ltb-no, ltb-true, Sides, room-sides}
 use Rattle.graph.specs.Graph.{Graph, Node, Sound}
 use Rattle.ad.specs.Stored.{kindAt, nodeCount, definitionCount, isOwn, isOther, operands, nameAt, rootAt, find, rootsFrom}
-use Rattle.links.specs.Pair.{Link, numbered, linked, inside, across, linksFrom, refersAt, both, rootsOf, requirements, rank, pairGraph, Formed}
+use Rattle.links.specs.Pair.{numbered, linked, inside, across, linksFrom, refersAt, both, rootsOf, requirements, rank, pairGraph, Formed}
 use Rattle.links.specs.Laws.Counting.{nodes-few, roots-each, found-few, found-root, map-from, arity-few}
 
 -- ---- the two sides
@@ -52,7 +52,7 @@ root-in w fw = roots-each w (λ y. y < nodeCount w) 0 (definitionCount w) (λ i 
 
 module _ (w b w′ b′ : List ℕ) where
   -- what a fact of a node's links asks: of its operands, of a definition of its own ad, of one of the other
-  pub links-each : (P : ℕ → List Link → Type 0) → ((i : ℕ) → P i []) →
+  pub links-each : (P : ℕ → List (Bool × ℕ) → Type 0) → ((i : ℕ) → P i []) →
       ((i : ℕ) → i < nodeCount w → refersAt w i ≡ true → P i (map inside (find w b (nameAt w b i)))) →
       ((i : ℕ) → i < nodeCount w → refersAt w i ≡ true → P i (map across (find w′ b′ (nameAt w b i)))) →
       ((i : ℕ) → i < nodeCount w → refersAt w i ≡ false → P i (map inside (operands w i))) → (i : ℕ) → P i (linksFrom w b w′ b′ i)

@@ -6,7 +6,7 @@ use Rattle.marks.proofs.leave.Tie as tie
 returns : tie.Need-returns
 returns c =
     let h = c .before .before .before .pre .2 in (
-      λ G ta ma fl a. leave-lists a _ _ _ (c .before .back-from .ensures) (c .entry .ensures) h,
+      λ G ta ma fl a. leave-lists a _ _ _ (c .before .back-from .ensures G) (c .entry .ensures) h,
       grows-one _ _ _ h,
     )
 

@@ -6,7 +6,7 @@ use mathlib.Core.List.{List, []}
 use Rattle.graph.specs.Members.{raised}
 use Rattle.graph.specs.Graph.{Graph, Flags, needs, Entered}
 use Rattle.graph.specs.Transition.{State}
-use Rattle.marks.specs.Memory.{view}
+use Rattle.marks.specs.Inner.Memory.{view}
 use Rattle.dependency.specs.Traversal.{Traversed}
 use Rattle.matching.specs.Matching.{Counted}
 use Rattle.matching.specs.Laws.Concluding.{flags-same}

@@ -1,7 +1,7 @@
 use mathlib.Core.Path.{ap}
 use Prim.Native.Nat.{ℕ, _+_, _*_, _%_}
 use native.Mathlib.Omega.{arith}
-use Rattle.names.specs.Fingerprint.{mixed}
+use Rattle.names.specs.Inner.Fingerprint.{mixed}
 use borrow.Author.Needs.{needs}
 use Rattle.names.proofs.mix.Statement.{statement}
 use Rattle.names.proofs.mix.Tie as tie

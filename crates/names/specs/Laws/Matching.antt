@@ -9,7 +9,7 @@ use lib.Dec.{eqb}
 use borrow.Author.Tests.{eqb-true}
 use Rattle.text.specs.Bytes.{lowerCase}
 use Rattle.text.specs.Strings.{sameBytes, sameName}
-use Rattle.names.specs.Fingerprint.{mixed, folded, fingerprintOf}
+use Rattle.names.specs.Inner.Fingerprint.{mixed, folded, fingerprintOf}
 
 never : false ≡ true → ⊥
 never e = let z : _≡_ {A = ℕ} 0 1 = cc in omega arith

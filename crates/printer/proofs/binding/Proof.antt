@@ -2,7 +2,7 @@ use mathlib.Core.Path.{_∙_, ap}
 use Prim.Native.Nat.{_-_}
 use Rattle.printer.proofs.Trees.{binds-leaf, binds-unary, binds-conditional, binds-binary}
 use Rattle.syntax.specs.Grammar.{bindsOf}
-use Rattle.printer.specs.Post.{bindsKind}
+use Rattle.printer.specs.Inner.Post.{bindsKind}
 use borrow.Author.Needs.{needs}
 use Rattle.printer.proofs.binding.Statement.{statement}
 use Rattle.printer.proofs.binding.Tie as tie

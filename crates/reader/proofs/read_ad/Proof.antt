@@ -1,5 +1,5 @@
 use native.Mathlib.Omega.{arith}
-use Rattle.leaves.specs.Marks.{memory}
+use Rattle.leaves.specs.Inner.Marks.{memory}
 use Rattle.reader.proofs.Laws.{ad-none, ad-read}
 use borrow.Author.Needs.{needs}
 use Rattle.reader.proofs.read_ad.Statement.{statement}

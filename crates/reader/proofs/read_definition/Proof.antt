@@ -2,7 +2,7 @@ use native.Mathlib.Omega.{arith}
 use mathlib.Core.Path.{_≡_, refl, sym, _∙_, ap}
 use Prim.Native.Nat.{_+_, _-_, _≤_}
 use lib.ListN.{length}
-use Rattle.leaves.specs.Marks.{mark, memory}
+use Rattle.leaves.specs.Inner.Marks.{mark, memory}
 use Rattle.leaves.proofs.Laws.{fewer-left}
 use Rattle.syntax.specs.Token.{symbol}
 use Rattle.syntax.specs.declared.Symbol.the-variants.{Assign}

@@ -17,7 +17,7 @@ use Rattle.syntax.specs.Tree.{integer, real, string}
 use Rattle.syntax.specs.Token.{Token, word, constant, pick, good, frontOf, Spelling, reserved, wordIn, nameFront, valueFrom, valueOf, fractionOf, integerFront, realFront, numberFront, closed, escapeOf, bodyOf, frontToken}
 use Rattle.syntax.specs.Print.{digits, decimal, lastDigits, escaped, escapedAll}
 use Rattle.syntax.specs.Laws.Codes.{both, neither}
-use Rattle.lexemes.specs.Lexeme.{every, isOneOf, isName, inString, isString, isReal}
+use Rattle.lexemes.specs.Inner.Lexeme.{every, isOneOf, isName, inString, isString, isReal}
 use Rattle.lexemes.specs.Laws.Digits.{decimal-short, length-last}
 
 -- ---- where a name or a number ends

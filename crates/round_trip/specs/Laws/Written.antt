@@ -18,7 +18,7 @@ use Rattle.syntax.specs.Token.{Token, word, constant, operator, symbol, Tokens,
 use Rattle.syntax.specs.Grammar.{Reads, reads-literal, reads-own, reads-other, reads-parentheses, reads-unary, reads-binary, reads-conditional, reads-tighter, Defines, defines-one, defines-more, IsAd, ad-empty, ad-plain, ad-trailing, Follows, none, some}
 use Rattle.syntax.specs.Laws.Codes.{on-pick, on-cond, both}
 use Rattle.syntax.specs.declared.Symbol.the-variants.{Question, Colon, CloseParenthesis, CloseBracket, Semicolon}
-use Rattle.lexemes.specs.Lexeme.{every, isOneOf, isName, inString, isString, isReal, isLiteral}
+use Rattle.lexemes.specs.Inner.Lexeme.{every, isOneOf, isName, inString, isString, isReal, isLiteral}
 use Rattle.round_trip.specs.Bounded.{isWritable, areWritable}
 use Rattle.round_trip.specs.Laws.Fronts.{every-append}
 

@@ -8,7 +8,7 @@ use mathlib.Core.List.{List, [], _∷_, _++_, append-assoc}
 use lib.ListN.{length, getD, length-append}
 use lib.Seq.{getD-at}
 use Rattle.syntax.specs.Tree.{undefined, Expr, literal, reference, unary, binary, conditional, Ad, size, nodes}
-use Rattle.lexemes.specs.Lexeme.{isName}
+use Rattle.lexemes.specs.Inner.Lexeme.{isName}
 use Rattle.round_trip.specs.Bounded.{isWritable, areWritable}
 use Rattle.well_formed.specs.Laws.Shapes.{and-left, and-right}
 use Rattle.trees.specs.Nodes.{Node, leaf, refers, ofOne, ofTwo, ofThree, lastOf, nodesOf, nodesIn, nthNode}

@@ -19,7 +19,7 @@ use Rattle.logic.specs.declared.Truth.the-variants as truth
 use Rattle.logic.specs.Logic.{truthOf, row, andTable, orTable}
 use Rattle.operands.specs.declared.Operands.{Operands}
 use Rattle.operands.specs.declared.Operands.the-variants.{Refused, Missing, Integers, Reals, Strings}
-use Rattle.operands.specs.Operands.{operandsOf, numberOnly}
+use Rattle.operands.specs.Inner.Operands.{operandsOf, numberOnly}
 use Rattle.arithmetic.specs.declared.Arithmetic.{Arithmetic}
 use Rattle.arithmetic.specs.declared.Arithmetic.the-variants as arithmetic
 use Rattle.arithmetic.specs.Arithmetic.{arithmeticResult, arithmeticValue, integersResult}

@@ -2,7 +2,7 @@ use mathlib.Core.Path.{sym, _∙_}
 use Prim.Native.Nat.{_-_}
 use lib.Dec.{leb, eqb}
 use Rattle.well_formed.proofs.Tests.{walk-if, walk-bad}
-use Rattle.well_formed.specs.Decode.{booleanFits}
+use Rattle.well_formed.specs.Inner.Decode.{booleanFits}
 use Rattle.well_formed.specs.Laws.Shapes.{and-left}
 use borrow.Author.Tests.{leb-true}
 use native.Mathlib.Omega.{arith}

@@ -2,7 +2,7 @@ use mathlib.Core.Path.{_≡_, sym, _∙_, ap}
 use Prim.Native.Nat.{ℕ, _-_, _≤_}
 use mathlib.Core.List.{List}
 use Rattle.ad.specs.Stored.{bytesAt, definedIn}
-use Rattle.well_formed.specs.Decode.{newFrom}
+use Rattle.well_formed.specs.Inner.Decode.{newFrom}
 use Rattle.well_formed.proofs.Answer.{new-more, new-stop, new-end, new-all}
 use borrow.Author.Needs.{needs}
 use native.Mathlib.Omega.{arith}

@@ -1,7 +1,7 @@
 use mathlib.Core.Path.{sym, _∙_, ap}
 use Prim.Native.Nat.{_-_}
 use Rattle.well_formed.proofs.Tests.{walk-if, walk-bad}
-use Rattle.well_formed.specs.Decode.{integerFits, plainWalk}
+use Rattle.well_formed.specs.Inner.Decode.{integerFits, plainWalk}
 use borrow.Author.Needs.{needs}
 use Rattle.well_formed.proofs.integer_walk.Statement.{statement}
 use Rattle.well_formed.proofs.integer_walk.Tie as tie

@@ -1,7 +1,7 @@
 use mathlib.Core.Path.{sym, _∙_}
 use Prim.Native.Nat.{_-_}
 use Rattle.well_formed.proofs.Tests.{walk-if, walk-bad}
-use Rattle.well_formed.specs.Decode.{keywordFits}
+use Rattle.well_formed.specs.Inner.Decode.{keywordFits}
 use borrow.Author.Needs.{needs}
 use Rattle.well_formed.proofs.keyword_walk.Statement.{statement}
 use Rattle.well_formed.proofs.keyword_walk.Tie as tie

@@ -1,9 +1,9 @@
 use mathlib.Core.Path.{sym, _∙_, ap}
 use mathlib.Core.Bool.{_&&_}
 use Prim.Native.Nat.{_-_}
-use Rattle.lexemes.specs.Lexeme.{isName}
+use Rattle.lexemes.specs.Inner.Lexeme.{isName}
 use Rattle.ad.specs.Stored.{bytesAt}
-use Rattle.well_formed.specs.Decode.{standsAt}
+use Rattle.well_formed.specs.Inner.Decode.{standsAt}
 use Rattle.well_formed.proofs.Tests.{walk-if, walk-bad, stands-room}
 use Rattle.lexemes.proofs.Laws.{ands}
 use native.Mathlib.Omega.{arith}

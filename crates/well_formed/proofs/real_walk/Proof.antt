@@ -1,8 +1,8 @@
 use mathlib.Core.Path.{sym, _∙_, ap}
 use Prim.Native.Nat.{_-_}
 use Rattle.well_formed.proofs.Tests.{walk-if, walk-bad, places-few}
-use Rattle.well_formed.specs.Decode.{plainWalk}
-use Rattle.lexemes.specs.Lexeme.{isReal}
+use Rattle.well_formed.specs.Inner.Decode.{plainWalk}
+use Rattle.lexemes.specs.Inner.Lexeme.{isReal}
 use borrow.Author.Needs.{needs}
 use Rattle.well_formed.proofs.real_walk.Statement.{statement}
 use Rattle.well_formed.proofs.real_walk.Tie as tie

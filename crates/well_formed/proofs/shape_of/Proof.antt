@@ -1,6 +1,6 @@
 use mathlib.Core.Path.{refl, sym, _∙_}
 use Prim.Native.Nat.{_-_}
-use Rattle.well_formed.specs.Decode.{shapeOf}
+use Rattle.well_formed.specs.Inner.Decode.{shapeOf}
 use borrow.Author.Tests.{lt-ltb, le-ltb, eq-eqb, ne-eqb}
 use borrow.Author.Needs.{needs}
 use Rattle.well_formed.proofs.shape_of.Statement.{statement}

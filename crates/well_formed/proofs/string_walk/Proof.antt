@@ -2,13 +2,13 @@ use mathlib.Core.Path.{sym, _∙_, ap}
 use mathlib.Core.Bool.{_&&_}
 use Prim.Native.Nat.{ℕ, _+_, _-_}
 use lib.ListN.{length}
-use Rattle.lexemes.specs.Lexeme.{isString}
+use Rattle.lexemes.specs.Inner.Lexeme.{isString}
 use Rattle.ad.specs.Stored.{bytesAt}
 use Rattle.syntax.specs.Tree.{string}
 use Rattle.syntax.specs.Print.{literalText}
 use mathlib.Core.List.{List}
 use Rattle.well_formed.specs.declared.Walk.the-variants.{Tree}
-use Rattle.well_formed.specs.Decode.{standsAt}
+use Rattle.well_formed.specs.Inner.Decode.{standsAt}
 use Rattle.well_formed.proofs.Tests.{walk-if, walk-bad, stands-room, stands-test, string-room}
 use Rattle.lexemes.proofs.Laws.{ands}
 use native.Mathlib.Omega.{arith}

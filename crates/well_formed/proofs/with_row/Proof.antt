@@ -1,6 +1,6 @@
 use mathlib.Core.Path.{sym, ap}
 use Prim.Native.Nat.{_-_}
-use Rattle.well_formed.specs.Decode.{rowBefore}
+use Rattle.well_formed.specs.Inner.Decode.{rowBefore}
 use native.Mathlib.Omega.{arith}
 use borrow.Author.Needs.{needs}
 use Rattle.well_formed.proofs.with_row.Statement.{statement}

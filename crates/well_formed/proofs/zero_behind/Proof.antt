@@ -2,8 +2,8 @@ use mathlib.Core.Path.{_∙_, ap}
 use Prim.Native.Nat.{_+_, _-_, _*_}
 use Rattle.well_formed.proofs.Tests.{rest-all}
 use Rattle.lexemes.proofs.Laws.{ands}
-use Rattle.lexemes.specs.Lexeme.{every}
-use Rattle.well_formed.specs.Decode.{isZero}
+use Rattle.lexemes.specs.Inner.Lexeme.{every}
+use Rattle.well_formed.specs.Inner.Decode.{isZero}
 use borrow.Author.Needs.{needs}
 use Rattle.well_formed.proofs.zero_behind.Statement.{statement}
 use Rattle.well_formed.proofs.zero_behind.Tie as tie

@@ -14,12 +14,12 @@ use Rattle.syntax.specs.Tree.{Expr, Definition, Ad, size, nodes}
 use Rattle.syntax.specs.Token.{pick}
 use Rattle.syntax.specs.Print.{levelOf, adLevel}
 use Rattle.text.specs.Bytes.{startsName, isLetter}
-use Rattle.lexemes.specs.Lexeme.{isName}
+use Rattle.lexemes.specs.Inner.Lexeme.{isName}
 use Rattle.ad.specs.Layout.{exprBytes, exprNodes, adBytes, adNodes, adDefinitions}
 use Rattle.ad.specs.Stored.{offsetAt, lengthAt, rootAt, bytesAt}
 use Rattle.ad.specs.Laws.Content.{length-nodes, size-some}
 use Rattle.round_trip.specs.Bounded.{isWritable, areWritable}
-use Rattle.well_formed.specs.Decode.{Found, got, bad, treeAt, FoundAd, all, none, chainAd, withTree, testAd, standsAt, entryFits, adAt}
+use Rattle.well_formed.specs.Inner.Decode.{Found, got, bad, treeAt, FoundAd, all, none, chainAd, withTree, testAd, standsAt, entryFits, adAt}
 use Rattle.well_formed.specs.Laws.Runs.{Stands, stands-none, stands-at, stands-as, stands-join, stands-left, stands-right, bytes-of, bytes-are}
 use Rattle.well_formed.specs.Laws.Shapes.{and-left, and-right, and-both}
 use Rattle.well_formed.specs.Laws.Leaves.{All, Run}

@@ -9,11 +9,11 @@ use lib.Dec.{leb, eqb}
 use borrow.Author.Tests.{leb-true, eqb-true, eq-eqb}
 use Rattle.syntax.specs.Tree.{Literal, undefined, error, boolean, integer, real, string, Scope, own, other, Expr, literal, reference, size}
 use Rattle.syntax.specs.Token.{pick}
-use Rattle.lexemes.specs.Lexeme.{isName, isString, isLiteral}
+use Rattle.lexemes.specs.Inner.Lexeme.{isName, isString, isLiteral}
 use Rattle.ad.specs.Layout.{scopeKind, node, literalNode, literalBytes, exprBytes, exprNodes}
 use Rattle.ad.specs.Stored.{kindAt, operandAt, bytesAt}
 use Rattle.round_trip.specs.Bounded.{isWritable}
-use Rattle.well_formed.specs.Decode.{Found, got, bad, chain, test, standsAt, leafOf, leafAt}
+use Rattle.well_formed.specs.Inner.Decode.{Found, got, bad, chain, test, standsAt, leafOf, leafAt}
 use Rattle.well_formed.specs.Laws.Runs.{Stands, stands-none, stands-as, node-of, kind-is, first-is, second-is, third-is, bytes-of, bytes-are}
 use Rattle.well_formed.specs.Laws.Shapes.{and-left, and-right}
 

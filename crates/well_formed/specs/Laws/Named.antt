@@ -3,7 +3,7 @@ use mathlib.Core.Path.{_≡_}
 use mathlib.Core.Bool.{true, _&&_}
 use mathlib.Core.List.{[], _∷_}
 use Rattle.syntax.specs.Tree.{Ad}
-use Rattle.lexemes.specs.Lexeme.{isName}
+use Rattle.lexemes.specs.Inner.Lexeme.{isName}
 use Rattle.ad.specs.Layout.{Named}
 use Rattle.round_trip.specs.Bounded.{isWritable, areWritable, Bounded}
 use Rattle.well_formed.specs.Laws.Shapes.{and-left, and-right}

@@ -10,7 +10,7 @@ use Rattle.syntax.specs.declared.Unary.{Unary}
 use Rattle.ad.specs.Layout.{exprBytes}
 use Rattle.ad.specs.Stored.{kindAt, operandAt, unaryOf, binaryOf}
 use Rattle.ad.specs.Laws.Content.{unary-found, unary-range, binary-found, binary-high, size-some}
-use Rattle.well_formed.specs.Decode.{got, leafAt}
+use Rattle.well_formed.specs.Inner.Decode.{got, leafAt}
 use Rattle.well_formed.specs.Laws.Leaves.{Run}
 use Rattle.well_formed.specs.Laws.Trees.{unary-parts, binary-parts, conditional-parts, leaf-parts}
 

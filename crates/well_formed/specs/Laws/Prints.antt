@@ -17,11 +17,11 @@ use Rattle.syntax.specs.declared.Binary.{Binary}
 use Rattle.syntax.specs.declared.Binary.the-variants.{Or, And, Equal, NotEqual, Is, Isnt, Less, LessOrEqual, Greater, GreaterOrEqual, Add, Subtract, Multiply, Divide, Remainder}
 use Rattle.syntax.specs.declared.Unary.{Unary}
 use Rattle.syntax.specs.declared.Unary.the-variants.{Not, Plus, Minus}
-use Rattle.lexemes.specs.Lexeme.{isName, isReal, isLiteral}
+use Rattle.lexemes.specs.Inner.Lexeme.{isName, isReal, isLiteral}
 use Rattle.lexemes.specs.Laws.Digits.{decimal-short, real-short}
 use Rattle.ad.specs.Layout.{literalBytes, exprBytes, adBytes}
 use Rattle.round_trip.specs.Bounded.{isWritable, areWritable}
-use Rattle.well_formed.specs.Decode.{rowsLength}
+use Rattle.well_formed.specs.Inner.Decode.{rowsLength}
 use Rattle.well_formed.specs.Laws.Shapes.{and-left, and-right}
 
 -- ---- literals

@@ -5,7 +5,7 @@ use mathlib.Core.Path.{_≡_, refl}
 use mathlib.Core.Bool.{Bool, true, false, cond, _&&_}
 use lib.Dec.{ltb, leb, eqb}
 use borrow.Author.Tests.{ltb-true, ltb-false, leb-true, eqb-true, eqb-false, lt-ltb, le-ltb, le-leb, eq-eqb, ne-eqb}
-use Rattle.well_formed.specs.Decode.{oneFits, twoFits, threeFits, shapeOf}
+use Rattle.well_formed.specs.Inner.Decode.{oneFits, twoFits, threeFits, shapeOf}
 use Rattle.well_formed.specs.declared.Shape.{Shape}
 use Rattle.well_formed.specs.declared.Shape.the-variants.{Leaf, One, Two, Three, Nothing}
 

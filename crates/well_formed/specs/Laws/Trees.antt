@@ -12,7 +12,7 @@ use Rattle.ad.specs.Layout.{unaryKind, binaryKind, node, exprBytes, exprNodes}
 use Rattle.ad.specs.Stored.{kindAt, operandAt, unaryOf, binaryOf}
 use Rattle.ad.specs.Laws.Content.{unary-found, unary-range, binary-found, binary-high, binary-low, length-nodes, size-some}
 use Rattle.round_trip.specs.Bounded.{isWritable}
-use Rattle.well_formed.specs.Decode.{Found, got, shapeAt, onShape, leafAt, treeAt}
+use Rattle.well_formed.specs.Inner.Decode.{Found, got, shapeAt, onShape, leafAt, treeAt}
 use Rattle.well_formed.specs.Laws.Runs.{Stands, stands-at, stands-as, stands-join, stands-left, stands-right, node-of, kind-is, first-is, second-is, third-is}
 use Rattle.well_formed.specs.Laws.Shapes.{and-left, and-right, and-both, Facts, shape-facts, leaf-shape, one-shape, two-shape, three-shape}
 use Rattle.well_formed.specs.Laws.Leaves.{All, on-chain, Run, leaf-sound, literal-complete, name-complete}

@@ -10,14 +10,14 @@ use lib.Seq.{drop-at, take-at, drop-drop, getD-drop, drop-append-seam, take-appe
 use borrow.Author.Tests.{eqb-true}
 use Rattle.syntax.specs.Tree.{Definition, Ad, size, nodes}
 use Rattle.syntax.specs.Grammar.{defined, NewAfter, Distinct, Within}
-use Rattle.lexemes.specs.Lexeme.{every}
+use Rattle.lexemes.specs.Inner.Lexeme.{every}
 use Rattle.ad.specs.Layout.{exprBytes, adBytes, adNodes, adDefinitions, storedWords, storedBytes}
 use Rattle.ad.specs.Stored.{offsetAt, lengthAt, bytesAt, definedIn}
 use Rattle.ad.specs.Laws.Content.{length-ad}
 use Rattle.ad.specs.Laws.Names.{names-in}
 use Rattle.well_formed.specs.WellFormed.{Holds}
 use Rattle.well_formed.specs.Laws.Bounds.{bounded, holds}
-use Rattle.well_formed.specs.Decode.{all, adAt, newFrom, isZero, zeroBehind}
+use Rattle.well_formed.specs.Inner.Decode.{all, adAt, newFrom, isZero, zeroBehind}
 use Rattle.well_formed.specs.Laws.Runs.{Stands, stands-at, stands-as, stands-front, stands-left, stands-right, stands-inside, bytes-are}
 use Rattle.well_formed.specs.Laws.Shapes.{and-left, and-right, and-both}
 use Rattle.well_formed.specs.Laws.Definitions.{Table, offset-is, length-is, AllAd, ad-sound, ad-few, ad-complete}

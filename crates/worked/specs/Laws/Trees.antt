@@ -17,7 +17,7 @@ use Rattle.graph.specs.Members.{_∈_, here, there}
 use Rattle.graph.specs.Laws.Members.{mem-nil, mem-cons, mem-left, mem-right, Sides}
 use Rattle.graph.specs.Graph.{Graph, Sound, Node, Path⁺, Circular, Flags, needs, Entered}
 use Rattle.graph.specs.Laws.Order.{entered-unique}
-use Rattle.links.specs.Pair.{Link, inside, across, linked, linksFrom, numbered, both, refersAt, rootsOf, requirements, rank, definitionAt, pairGraph, StoredAd}
+use Rattle.links.specs.Pair.{inside, across, linked, linksFrom, numbered, both, refersAt, rootsOf, requirements, rank, definitionAt, pairGraph, StoredAd}
 use Rattle.links.specs.Laws.Layout.{stored-nodes, stored-formed}
 use Rattle.links.specs.Laws.Finding.{find-tree}
 use Rattle.links.specs.Laws.Soundness.{pair-sound, node-sides}
@@ -37,7 +37,7 @@ use Rattle.worked.specs.Laws.Circles.{never, cond-both, either, returns,
 
 -- ---- links and roots by the trees: nothing is counted or looked up in words
 
-unfoldable pub treeFrom : Ad → Ad → ℕ → List Link
+unfoldable pub treeFrom : Ad → Ad → ℕ → List (Bool × ℕ)
 treeFrom a a′ i =
     cond (ltb i (nodes a))
     (cond (isOwn (kindAt (storedWords a) i))

@@ -7,10 +7,10 @@ use Rattle.classad_cli.proofs.lines.put_line.Statement.{statement}
 use Rattle.classad_cli.proofs.lines.put_line.Tie as tie
 
 abbrev Inv-loop : tie.InvT-loop
-Inv-loop rest out₀ n₀ out n = length out ≡ length out₀
+Inv-loop rest room₀ n₀ room n = length room ≡ length room₀
 
 abbrev μ-loop : tie.MeasureT-loop
-μ-loop rest out₀ n₀ out n = length out₀ - n
+μ-loop rest room₀ n₀ room n = length room₀ - n
 
 pub put-line-spec : {M : Type 1} → statement M
 put-line-spec =

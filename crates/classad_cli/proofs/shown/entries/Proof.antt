@@ -6,10 +6,10 @@ use Rattle.classad_cli.proofs.shown.entries.Statement.{statement}
 use Rattle.classad_cli.proofs.shown.entries.Tie as tie
 
 abbrev Inv-loop : tie.InvT-loop
-Inv-loop v b w c table list i₀ i = Unit {0}
+Inv-loop out₀ first first-bytes second second-bytes table list i₀ out i = Unit {0}
 
 abbrev μ-loop : tie.MeasureT-loop
-μ-loop v b w c table list i₀ i = length list - i
+μ-loop out₀ first first-bytes second second-bytes table list i₀ out i = length list - i
 
 pub entries-spec : {M : Type 1} → statement M
 entries-spec =

@@ -6,10 +6,10 @@ use Rattle.classad_cli.proofs.shown.string.Statement.{statement}
 use Rattle.classad_cli.proofs.shown.string.Tie as tie
 
 abbrev Inv-loop : tie.InvT-loop
-Inv-loop s i₀ t4 i = Unit {0}
+Inv-loop out₀ s i₀ t5 out i = Unit {0}
 
 abbrev μ-loop : tie.MeasureT-loop
-μ-loop s i₀ t4 i = length s - i
+μ-loop out₀ s i₀ t5 out i = length s - i
 
 pub string-spec : {M : Type 1} → statement M
 string-spec =

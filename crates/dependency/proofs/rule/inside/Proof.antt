@@ -1,17 +1,14 @@
 use denote.Ref.{now}
 use native.Mathlib.Omega.{arith}
-use Rattle.links.specs.Laws.Numbering.{stands-small}
-use Rattle.dependency.proofs.Steps.{stands-in, kept-grows, need-in, step-link, step-last}
+use Rattle.dependency.proofs.Steps.{small-in, kept-grows, need-in, step-link, step-last}
 use borrow.Author.Needs.{needs}
 use Rattle.dependency.proofs.rule.inside.Statement.{statement}
 use Rattle.dependency.proofs.rule.inside.Tie as tie
 
 followed-requires : tie.Need-followed-requires
 followed-requires c κs =
-    let s = c .before .before .before .before .before .before .before in (
-      stands-small (now (s .args .v)) (now (s .args .w)) (s .args .x) (s .pre .0 .2),
-      s .pre .1 .0 .marks-room,
-    )
+    let s = c .before .before .before .before .before .before .before in
+    (s .pre .0 .2, s .pre .1 .0 .marks-room)
 
 need-count-requires : tie.Need-need-count-requires
 need-count-requires c κs =
@@ -19,10 +16,8 @@ need-count-requires c κs =
       s .pre .0 .0,
       s .pre .0 .1,
       s .pre .0 .2,
-      stands-in (now (s .args .v)) (now (s .args .w)) (s .args .x) (s .pre .0 .2)
-          (s .pre .1 .0 .target-room),
-      stands-in (now (s .args .v)) (now (s .args .w)) (s .args .x) (s .pre .0 .2)
-          (s .pre .1 .0 .flag-room),
+      small-in (s .pre .0 .2) (s .pre .1 .0 .target-room),
+      small-in (s .pre .0 .2) (s .pre .1 .0 .flag-room),
     )
 
 led-to-requires : tie.Need-led-to-requires
@@ -34,8 +29,7 @@ led-to-requires c κs =
       s .pre .0 .0,
       s .pre .0 .1,
       s .pre .0 .2,
-      stands-in (now (s .args .v)) (now (s .args .w)) (s .args .x) (s .pre .0 .2)
-          (s .pre .1 .0 .target-room),
+      small-in (s .pre .0 .2) (s .pre .1 .0 .target-room),
       λ b d. need-in _ b _ d (s .args .x) _ _ (now (s .args .target)) (now (s .args .marks))
           (now (s .args .flag)) (e-need-count .ensures .0 b d) (e-followed .ensures) (e-if1 .taken),
     )
@@ -47,7 +41,7 @@ follow-requires c κs =
     let e-need-count = c .before .before .before .need-count in
     let s = c .before .before .before .before .before .before .before .before .before .before
     .before .before in (
-      stands-small (now (s .args .v)) (now (s .args .w)) (s .args .x) (s .pre .0 .2),
+      s .pre .0 .2,
       e-led-to .ensures .1,
       (let q = e-need-count .ensures .1 in let h = e-if1 .taken in omega arith),
       s .pre .1 .0 .marks-room,
@@ -70,19 +64,14 @@ returns c =
 entered-from-requires : tie.Need-entered-from-requires
 entered-from-requires c κs =
     let s =
-    c .before .before .before .before .before .before .before .before .before .before .before in (
-      stands-small (now (s .args .v)) (now (s .args .w)) (s .args .x) (s .pre .0 .2),
-      s .pre .1 .0 .marks-room,
-    )
+    c .before .before .before .before .before .before .before .before .before .before .before in
+    (s .pre .0 .2, s .pre .1 .0 .marks-room)
 
 leave-requires : tie.Need-leave-requires
 leave-requires c κs =
     let s = c .before .before .before .before .before .before .before .before .before .before
-    .before .before .before in (
-      let k = s .pre .0 .3 in omega arith,
-      stands-small (now (s .args .v)) (now (s .args .w)) (s .args .x) (s .pre .0 .2),
-      s .pre .1 .1,
-    )
+    .before .before .before in
+    (let k = s .pre .0 .3 in omega arith, s .pre .0 .2, s .pre .1 .1)
 
 returns-2 : tie.Need-returns-2
 returns-2 c =

@@ -1,19 +1,15 @@
-use denote.Ref.{now}
 use mathlib.Core.Path.{refl}
 use mathlib.Core.Logic.{inl}
 use native.Mathlib.Omega.{arith}
-use Rattle.links.specs.Laws.Numbering.{nodes-fit, stands-small}
-use Rattle.dependency.proofs.Steps.{nodes-few, stands-in, step-loop-link, step-loop-last}
+use Rattle.links.specs.Laws.Numbering.{nodes-fit}
+use Rattle.dependency.proofs.Steps.{nodes-few, small-in, step-loop-link, step-loop-last}
 use borrow.Author.Needs.{needs}
 use Rattle.dependency.proofs.rule.searching.Statement.{statement}
 use Rattle.dependency.proofs.rule.searching.Tie as tie
 
 followed-requires : tie.Need-followed-requires
 followed-requires c κs =
-    let s = c .before .before .before .before .before .before in (
-      stands-small (now (s .args .v)) (now (s .args .w)) (s .args .x) (s .pre .1 .0 .0),
-      s .pre .1 .1 .1,
-    )
+    let s = c .before .before .before .before .before .before in (s .pre .1 .0 .0, s .pre .1 .1 .1)
 
 led-count-requires : tie.Need-led-count-requires
 led-count-requires c κs =
@@ -21,8 +17,7 @@ led-count-requires c κs =
       s .pre .0 .0 .formed,
       s .pre .0 .1 .formed,
       s .pre .1 .0 .0,
-      stands-in (now (s .args .v)) (now (s .args .w)) (s .args .x) (s .pre .1 .0 .0)
-          (s .pre .1 .1 .0),
+      small-in (s .pre .1 .0 .0) (s .pre .1 .1 .0),
     )
 
 led-to-requires : tie.Need-led-to-requires
@@ -33,8 +28,7 @@ led-to-requires c κs =
       s .pre .0 .0 .formed,
       s .pre .0 .1 .formed,
       s .pre .1 .0 .0,
-      stands-in (now (s .args .v)) (now (s .args .w)) (s .args .x) (s .pre .1 .0 .0)
-          (s .pre .1 .1 .0),
+      small-in (s .pre .1 .0 .0) (s .pre .1 .1 .0),
       λ b d. let q = e-led-count .ensures .0 b d in let h = e-if1 .taken in omega arith,
     )
 
@@ -51,18 +45,14 @@ explore-requires c κs =
     let e-led-count = at-e-if1 .before .led-count in
     let s = at-e-if1 .before .before .before .before .before .before .before .before .before in (
       (
-        stands-small (now (s .args .v)) (now (s .args .w)) (s .args .x) (s .pre .1 .0 .0),
-        stands-small (now (s .args .v)) (now (s .args .w)) (s .args .top) (s .pre .1 .0 .1),
+        s .pre .1 .0 .0,
+        s .pre .1 .0 .1,
         s .pre .1 .0 .3,
         s .pre .1 .0 .4,
         (let q = e-led-count .ensures .1 in let h = e-if1 .taken in omega arith),
         e-led-to .ensures .1,
       ),
-      (
-        s .pre .1 .1 .1,
-        stands-in (now (s .args .v)) (now (s .args .w)) (s .args .x) (s .pre .1 .0 .0)
-            (s .pre .1 .1 .2),
-      ),
+      (s .pre .1 .1 .1, small-in (s .pre .1 .0 .0) (s .pre .1 .1 .2)),
     )
 
 returns : tie.Need-returns
@@ -93,7 +83,7 @@ retreat-requires c κs =
     let s = c .before .before .before .before .before .before .before .before .before .before
     .before .before in (
       let h = nodes-few (s .pre .0 .0) (s .pre .0 .1) in let j = s .pre .1 .0 .2 in omega arith,
-      stands-small (now (s .args .v)) (now (s .args .w)) (s .args .x) (s .pre .1 .0 .0),
+      s .pre .1 .0 .0,
       s .pre .1 .1 .1,
     )
 

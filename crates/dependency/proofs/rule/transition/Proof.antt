@@ -2,9 +2,9 @@ use denote.Ref.{now}
 use mathlib.Core.Path.{refl}
 use lib.ListN.{length}
 use native.Mathlib.Omega.{arith}
-use Rattle.links.specs.Laws.Numbering.{nodes-fit, stands-small}
+use Rattle.links.specs.Laws.Numbering.{nodes-fit}
 use Rattle.links.specs.Laws.Roots.{roots-few, roots-small}
-use Rattle.dependency.proofs.Steps.{kept-grows, nodes-few, size-is}
+use Rattle.dependency.proofs.Steps.{kept-grows, nodes-few, step-close}
 use Rattle.dependency.proofs.Places.{fits-at}
 use borrow.Author.Needs.{needs}
 use Rattle.dependency.proofs.rule.transition.Statement.{statement}
@@ -70,12 +70,8 @@ close-requires c κs =
     ((s .args .s) .len) (now (s .args .list)) ((s .args .s) .place) (s .pre .1 .1)
     (e-place4 .given .1) in
     let h = nodes-few (s .pre .0 .0) (s .pre .0 .1) in
-    let j = f .2 in (
-      omega arith,
-      stands-small (now (s .args .v)) (now (s .args .w)) _ (f .0),
-      stands-small (now (s .args .v)) (now (s .args .w)) _ (f .1),
-      s .pre .1 .0 .marks-room,
-    )
+    let j = f .2 in
+    (omega arith, f .0, f .1, s .pre .1 .0 .marks-room)
 
 between-requires : tie.Need-between-requires
 between-requires c κs =
@@ -141,7 +137,7 @@ returns-4 c =
     let s = at-e-place4 .before .before .before .before .before .before .before .before .before
     .before .before .before in (
       rw (e-place4 .given .1) (e-close .ensures .0 _ _ _ _
-          (size-is (s .pre .0 .0) (s .pre .0 .1) _ _)),
+          (step-close (s .pre .0 .0) (s .pre .0 .1) _ _)),
       (kept-grows _ (e-close .ensures .1), rw (e-place4 .given .1) refl),
     )
 

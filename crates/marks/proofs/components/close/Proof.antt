@@ -13,7 +13,8 @@ returns c =
     let p = b .before .before .before .before .pre in (
       λ G ta fl ls e. rw (d .write .ensures) (close-last G _ _ _ _ _ ta _ fl ls (p .3) (p .1)
           (t .if1 .taken) (b .before .before .less .ensures) (b .read .ensures)
-          (f .before .before .read2 .ensures) (f .read3 .ensures) (c .back-closed .ensures G e)),
+          (f .before .before .read2 .ensures) (f .read3 .ensures)
+          (c .back-closed .ensures G (e .size-is) (e .slots-are))),
       refl,
     )
 
@@ -25,7 +26,7 @@ returns-2 c =
     let p = b .before .before .before .before .pre in (
       λ G ta fl ls e. rw (d .write2 .ensures) (close-newer G _ _ _ _ _ ta _ fl ls (p .3) (p .2)
           (t .if1 .left) (b .before .before .less .ensures) (b .read .ensures)
-          (c .next-open .ensures G e)),
+          (c .next-open .ensures G (e .size-is) (e .slots-are))),
       refl,
     )
 

@@ -10,7 +10,7 @@ returns c =
     let t = d .before .before in (
       λ G ta fl ls a. retreat-open a _ _ _ _ _ fl ls (t .before .read .ensures) (t .if1 .taken)
           (d .before .read2 .ensures) (d .read3 .ensures) (c .before .lower .ensures)
-          (c .back-open .ensures G (a .size-is)),
+          (c .back-open .ensures G (a .size-is) (a .slots-are)),
       refl,
     )
 

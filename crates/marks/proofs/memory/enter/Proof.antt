@@ -1,5 +1,5 @@
 use mathlib.Core.Path.{refl}
-use Rattle.marks.specs.Memory.{fill}
+use Rattle.marks.specs.Inner.Memory.{fill}
 use borrow.Author.Needs.{needs}
 use Rattle.marks.proofs.memory.enter.Statement.{statement}
 use Rattle.marks.proofs.memory.enter.Tie as tie

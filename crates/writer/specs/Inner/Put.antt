@@ -11,6 +11,6 @@ pub record Puts (t o : List ℕ) (at : ℕ) (o′ : List ℕ) (r : ℕ) : Type 0
   pub behind : r ≡ at + length t
   pub written : o′ ≡ sets o at t
 
--- a bound of all places, so that they are counted without overflow: for 'printed text longer than the lent output or than 16,384'
+-- a bound of all places, so that they are counted without overflow
 abbrev pub Near : ℕ → List ℕ → Type 0
 Near at t = at + length t ≤ 1000000

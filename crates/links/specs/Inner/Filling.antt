@@ -5,7 +5,7 @@ use mathlib.Core.Bool.{Bool}
 use mathlib.Core.List.{List}
 use Prim.Native.Nat.{ℕ, _<_}
 use lib.ListN.{getD}
-use Rattle.names.specs.Fingerprint.{fingerprintOf}
+use Rattle.names.specs.Inner.Fingerprint.{fingerprintOf}
 use Rattle.ad.specs.Stored.{offsetAt, lengthAt, bytesAt}
 use Rattle.links.specs.Pair.{printAt}
 

@@ -5,8 +5,8 @@ use mathlib.Core.Path.{_≡_}
 use mathlib.Core.List.{List}
 use Rattle.syntax.specs.Tree.{Expr}
 use Rattle.syntax.specs.Reader.{Parsed, ok, refused, limits, conditionalAt, armsAt, binaryAt, restAt, unaryAt, primaryAt}
-use Rattle.lexer.specs.Meaning.{tokensAt}
-use Rattle.leaves.specs.Marks.{Mark, mark, past, Memory, written, left, Inside}
+use Rattle.lexer.specs.Inner.Meaning.{tokensAt}
+use Rattle.leaves.specs.Inner.Marks.{Mark, mark, past, Memory, written, left, Inside}
 use Rattle.expressions.specs.declared.Read.{Read}
 use Rattle.expressions.specs.declared.Read.the-variants.{Done, Refused}
 
@@ -16,7 +16,7 @@ abbrev pub Agrees : List ℕ → Mark → Memory → Memory → Parsed → Read 
 Agrees s m w w′ p (Done q n k) = (e : Expr) × (p ≡ ok e (tokensAt s q)) × (mark n k ≡ past m e) × (w′ ≡ written w m e)
 Agrees s m w w′ p (Refused k q) = p ≡ refused k q
 
--- where the reader is behind what it read: for 'the falling number is bytes left with the binding level'
+-- where the reader is behind what it read
 abbrev pub Within : List ℕ → ℕ → ℕ → Mark → ℕ → Read → Type 0
 Within s at t m o (Done q n k) = Inside s at t m o q n k
 Within s at t m o (Refused k q) = Unit {0}

@@ -9,19 +9,19 @@ use Rattle.syntax.specs.Token.{Tokens, symbol, end}
 use Rattle.syntax.specs.Reader as R
 use Rattle.syntax.specs.Reader.{limits, conditionalAt, afterA, wantA, endA, admit, enough, definitionsAt, behindAt, adAt}
 use Rattle.syntax.specs.declared.Symbol.the-variants.{Assign}
-use Rattle.lexer.specs.Meaning.{tokensAt}
+use Rattle.lexer.specs.Inner.Meaning.{tokensAt}
 use Rattle.ad.specs.Layout.{adNodes, adDefinitions, adBytes}
-use Rattle.leaves.specs.Marks.{Mark, mark, Memory, memory, left}
+use Rattle.leaves.specs.Inner.Marks.{Mark, mark, Memory, memory, left}
 use Rattle.expressions.specs.declared.Read.{Read}
 use Rattle.expressions.specs.declared.Read.the-variants as E
 use Rattle.reader.specs.declared.Answer.{Answer}
 use Rattle.reader.specs.declared.Answer.the-variants.{Accepted, Refused}
 
--- behind the ad a: its nodes and bytes are stored; for 'Nodes are counted in text order'
+-- behind the ad a: its nodes and bytes are stored
 abbrev pub ends : Ad → Mark
 ends a = mark (nodes a) (length (adBytes a))
 
--- the memory w with the ad a in it: for 'reading some text .. would leave exactly this content'
+-- the memory w with the ad a in it
 abbrev pub storedIn : Memory → Ad → Memory
 storedIn w a = memory (sets (sets (w .words) 0 (adNodes 0 0 a)) 4096 (adDefinitions 0 0 a)) (sets (w .bytes) 0 (adBytes a))
 
@@ -39,7 +39,7 @@ pub record AdRoom (s : List ℕ) (at d : ℕ) (m : Mark) (w : Memory) : Type 0 w
   pub short : m .bytes ≤ at
   pub bytes : length s ≤ length (w .bytes)
 
--- the memory holds the ad a, of d definitions and m: for 'reading some text .. would leave exactly this content'
+-- the memory holds the ad a, of d definitions and m
 pub record Holds (d : ℕ) (m : Mark) (w : Memory) (v : Memory) (a : Ad) : Type 0 where
   pub count : d ≡ length a
   pub mark-of : m ≡ ends a
@@ -59,7 +59,7 @@ abbrev pub EndOk : List ℕ → ℕ → ℕ → ℕ → Answer → Type 0
 EndOk s at d n (Accepted e k) = (e ≡ d) × (k ≡ n) × ((m : ℕ) × (tokensAt s at ≡ end m))
 EndOk s at d n (Refused k p) = (a : Ad) → endA (tokensAt s at) a ≡ R.denied k p
 
--- the reader's way behind a Name w at p, from the place at on: for 'definitions `name = expression`'; 'a definition at its name'
+-- the reader's way behind a Name w at p, from the place at on
 abbrev pub definitionAt : Tokens → List ℕ → ℕ → Ad → ℕ → (Expr → Tokens → R.Answer) → R.Answer
 definitionAt u w p a c go = admit limits w p a (λ _. wantA (symbol Assign) u (λ x. afterA (conditionalAt limits (enough x) x 0 c) go))
 

@@ -11,7 +11,7 @@ use Rattle.syntax.specs.Token.{pick}
 use Rattle.syntax.specs.Grammar.{bindsOf}
 use Rattle.syntax.specs.Print.{binaryText, binds, printed, definitionText, wrapLevel, levelOf}
 use Rattle.syntax.specs.declared.Binary.{Binary}
-use Rattle.lexemes.specs.Lexeme.{every, isName, isString, isReal}
+use Rattle.lexemes.specs.Inner.Lexeme.{every, isName, isString, isReal}
 use Rattle.ad.specs.Layout.{exprBytes, adBytes}
 use Rattle.ad.specs.Stored.{kindAt, operandAt, offsetAt, lengthAt, rootAt, bytesAt, definedIn, unaryOf, binaryOf}
 use Rattle.well_formed.specs.declared.Rows.{Rows}
@@ -21,33 +21,31 @@ use Rattle.well_formed.specs.declared.Shape.the-variants.{Leaf, One, Two
 use Rattle.well_formed.specs.declared.Walk.{Walk}
 use Rattle.well_formed.specs.declared.Walk.the-variants.{Tree, Bad}
 
--- what is found at some nodes: their tree, or none: for 'stored numbers are no well-formed tree'
+-- what is found at some nodes: their tree, or none
 pub data Found : Type 0 where
   got : Expr → Found
   bad : Found
 
--- goes on with the tree that is found, if there is one: for 'stored numbers are no well-formed tree'
+-- goes on with the tree that is found, if there is one
 abbrev pub chain : Found → (Expr → Found) → Found
 chain (got e) go = go e
 chain bad go = bad
 
--- goes on where t holds, else there is no tree: for 'stored numbers are no well-formed tree'
+-- goes on where t holds, else there is no tree
 abbrev pub test : Bool → (Unit {0} → Found) → Found
 test t go = pick t go (λ _. bad)
 
 -- ---- the operands of a node
 
--- the nodes s to i are the run s to x of one operand and then the node i: docs/LAYOUT.md stores nodes operands first, 'Layouts
--- are the team's, written in docs/'
+-- the nodes s to i are the run s to x of one operand and then the node i: docs/LAYOUT.md stores nodes operands first
 abbrev pub oneFits : ℕ → ℕ → ℕ → ℕ → ℕ → Bool
 oneFits s i x y z = (leb s x && eqb (x + 1) i) && (eqb y 0 && eqb z 0)
 
--- the runs s to x and x + 1 to y of two operands, and then the node i: docs/LAYOUT.md, 'Layouts are the team's, written in docs/'
+-- the runs s to x and x + 1 to y of two operands, and then the node i: docs/LAYOUT.md
 abbrev pub twoFits : ℕ → ℕ → ℕ → ℕ → ℕ → Bool
 twoFits s i x y z = (leb s x && ltb x y) && (eqb (y + 1) i && eqb z 0)
 
--- the runs s to x, x + 1 to y and y + 1 to z of three operands, and then the node i: docs/LAYOUT.md, 'Layouts are the team's,
--- written in docs/'
+-- the runs s to x, x + 1 to y and y + 1 to z of three operands, and then the node i: docs/LAYOUT.md
 abbrev pub threeFits : ℕ → ℕ → ℕ → ℕ → ℕ → Bool
 threeFits s i x y z = (leb s x && ltb x y) && (ltb y z && eqb (z + 1) i)
 
@@ -64,8 +62,7 @@ shapeOf s i k x y z =
 abbrev pub shapeAt : List ℕ → ℕ → ℕ → Shape
 shapeAt w s i = shapeOf s i (kindAt w i) (operandAt w i 0) (operandAt w i 1) (operandAt w i 2)
 
--- goes on by how many operands there are; where they do not fit there is no tree: for 'A node is a literal, a reference or an
--- operator.'
+-- goes on by how many operands there are; where they do not fit there is no tree
 abbrev pub onShape : Shape → (Unit {0} → Found) → (ℕ → Found) → (ℕ → ℕ → Found) → (ℕ → ℕ → ℕ → Found) → Found
 onShape Leaf l f g h = l tt
 onShape (One x) l f g h = f x
@@ -79,7 +76,7 @@ onShape Nothing l f g h = bad
 abbrev pub keywordFits : ℕ → ℕ → Bool
 keywordFits x y = eqb x 0 && eqb y 0
 
--- those of a Boolean, 1 for true and 0 for false, and 0: docs/LAYOUT.md, 'Layouts are the team's, written in docs/'
+-- those of a Boolean, 1 for true and 0 for false, and 0: docs/LAYOUT.md
 abbrev pub booleanFits : ℕ → ℕ → Bool
 booleanFits x y = leb x 1 && eqb y 0
 
@@ -111,7 +108,7 @@ leafAt w b i o = leafOf b o (kindAt w i) (operandAt w i 0) (operandAt w i 1) (op
 
 -- ---- the tree of the nodes s to i, whose bytes begin at o; f bounds its depth
 
--- what is found at these nodes: for 'reading some text, were its length not bounded, would leave exactly this content'
+-- what is found at these nodes
 unfoldable pub treeAt : ℕ → List ℕ → List ℕ → ℕ → ℕ → ℕ → Found
 treeAt zero w b s i o = bad
 treeAt (suc f) w b s i o =
@@ -128,48 +125,44 @@ treeAt (suc f) w b s i o =
 
 -- ---- what the walk answers of it
 
--- r is what is found: where its bytes end, how it binds, the highest level and the length of its print: for 'stored numbers are
--- no well-formed tree within the bounds above', 'levels of its printed text included'
+-- r is what is found: where its bytes end, how it binds, the highest level and the length of its print
 abbrev pub Same : ℕ → Found → Walk → Type 0
 Same o x (Tree k b d n) =
     (e : Expr) × (x ≡ got e) × (k ≡ o + length (exprBytes e)) × (b ≡ binds e) × (d ≡ levelOf e) × (n ≡ length (printed e))
 Same o x Bad = x ≡ bad
 
--- the answer r is what is found at the nodes s to i, under any bound f of the depth that is enough: for 'stored numbers are no
--- well-formed tree'
+-- the answer r is what is found at the nodes s to i, under any bound f of the depth that is enough
 abbrev pub WalkOk : List ℕ → List ℕ → ℕ → ℕ → ℕ → Walk → Type 0
 WalkOk w b s i o r = (f : ℕ) → i < f + s → Same o (treeAt f w b s i o) r
 
 -- ---- the ad of the definitions from j on, k at most, whose nodes begin at n and whose bytes begin at o
 
--- what is found at some definitions: their ad, or none: for 'stored numbers are no well-formed tree'
+-- what is found at some definitions: their ad, or none
 pub data FoundAd : Type 0 where
   all : Ad → FoundAd
   none : FoundAd
 
--- goes on with the ad that is found, if there is one: for 'stored numbers are no well-formed tree'
+-- goes on with the ad that is found, if there is one
 abbrev pub chainAd : FoundAd → (Ad → FoundAd) → FoundAd
 chainAd (all a) go = go a
 chainAd none go = none
 
--- goes on with the tree that is found, if there is one: for 'stored numbers are no well-formed tree'
+-- goes on with the tree that is found, if there is one
 abbrev pub withTree : Found → (Expr → FoundAd) → FoundAd
 withTree (got e) go = go e
 withTree bad go = none
 
--- goes on where t holds, else there is no ad: for 'stored numbers are no well-formed tree'
+-- goes on where t holds, else there is no ad
 abbrev pub testAd : Bool → (Unit {0} → FoundAd) → FoundAd
 testAd t go = pick t go (λ _. none)
 
--- the name of definition j begins at o and is one, and its expression's nodes begin at n: for 'definitions `name = expression`'
--- and '1,024 nodes'
+-- the name of definition j begins at o and is one, and its expression's nodes begin at n
 abbrev pub entryFits : List ℕ → List ℕ → ℕ → ℕ → ℕ → Bool
 entryFits w b j n o =
     (standsAt b o (offsetAt w j) (lengthAt w j) && isName (bytesAt b o (lengthAt w j)))
     && (leb n (rootAt w j) && ltb (rootAt w j) maxNodes)
 
--- what is found at these definitions, up to the first whose name has no bytes: for 'reading some text, were its length not
--- bounded, would leave exactly this content'; 'level 64'
+-- what is found at these definitions, up to the first whose name has no bytes
 unfoldable pub adAt : ℕ → List ℕ → List ℕ → ℕ → ℕ → ℕ → FoundAd
 adAt zero w b j n o = all []
 adAt (suc k) w b j n o =
@@ -186,8 +179,7 @@ unfoldable pub rowsLength : Ad → ℕ
 rowsLength [] = 0
 rowsLength (d ∷ ds) = length (definitionText d) + 2 + rowsLength ds
 
--- r is what is found: how many definitions and nodes there are then, where the bytes end, and how long they print: for 'stored
--- numbers are no well-formed tree within the bounds above'
+-- r is what is found: how many definitions and nodes there are then, where the bytes end, and how long they print
 abbrev pub SameAd : ℕ → ℕ → ℕ → FoundAd → Rows → Type 0
 SameAd j n o x (Ads d m k t) =
     (a : Ad) × (x ≡ all a) × (d ≡ j + length a) × (m ≡ n + nodes a) × (k ≡ o + length (adBytes a)) × (t ≡ rowsLength a)
@@ -202,7 +194,7 @@ newFrom w b j (suc k) = not (definedIn w b (bytesAt b (offsetAt w j) (lengthAt w
 
 -- ---- zeros
 
--- whether a word or a byte is zero: for 'Unused room is zero'
+-- whether a word or a byte is zero
 abbrev pub isZero : ℕ → Bool
 isZero x = eqb x 0
 
@@ -213,7 +205,7 @@ zeroBehind w b d n k =
 
 -- ---- the parts of the walk's answer
 
--- one answer or none: for 'stored numbers are no well-formed tree'
+-- one answer or none
 abbrev pub walkIf : Bool → Walk → Walk
 walkIf t r = cond t r Bad
 
@@ -259,8 +251,7 @@ pub record RowsRoom (w b : List ℕ) (j n o : ℕ) : Type 0 where
   pub byte : o ≤ 16384
   pub bytes : length b ≡ 16384
 
--- the answer r is what is found at the definitions from j on: for 'stored numbers are no well-formed tree within the bounds
--- above', '256 definitions'
+-- the answer r is what is found at the definitions from j on
 abbrev pub RowsOk : List ℕ → List ℕ → ℕ → ℕ → ℕ → Rows → Type 0
 RowsOk w b j n o r = SameAd j n o (adAt (256 - j) w b j n o) r
 
@@ -270,7 +261,7 @@ abbrev pub rowBefore : ℕ → ℕ → Rows → Rows
 rowBefore l p (Ads d n k t) = Ads d n k (l + p + 5 + t)
 rowBefore l p Wrong = Wrong
 
--- the print is short enough to be counted without overflow: for 'printed text longer than the lent output or than 16,384'
+-- the print is short enough to be counted without overflow
 abbrev pub RowsSmall : Rows → Type 0
 RowsSmall (Ads d n k t) = t < 100000
 RowsSmall Wrong = Unit {0}

@@ -8,7 +8,7 @@ use Rattle.syntax.specs.Tree.{Expr, reference, other, size}
 use Rattle.syntax.specs.Token.{Tokens, symbol, Body, closed, bodyOf}
 use Rattle.syntax.specs.Reader.{Parsed, ok, refused, after, want, onWord, misfit, level, room, limits, count, conditionalAt, primaryAt}
 use Rattle.syntax.specs.declared.Symbol.the-variants.{CloseParenthesis, Point}
-use Rattle.lexer.specs.Meaning.{tokensAt, literalOf}
+use Rattle.lexer.specs.Inner.Meaning.{tokensAt, literalOf}
 use Rattle.lexer.specs.declared.Constant.{Constant}
 use Rattle.ad.specs.Layout.{node, literalNode, exprNodes, exprBytes}
 use Rattle.leaves.specs.declared.Leaf.{Leaf}
@@ -23,7 +23,7 @@ pub record Mark : Type 0 where
 abbrev pub mark : ℕ → ℕ → Mark
 mark n k = record { nodes = n; bytes = k }
 
--- behind the expression e: so many nodes and bytes more; for 'Nodes are counted in text order'
+-- behind the expression e: so many nodes and bytes more
 abbrev pub past : Mark → Expr → Mark
 past m e = record { nodes = m .nodes + size e; bytes = m .bytes + length (exprBytes e) }
 
@@ -36,7 +36,7 @@ pub record Memory : Type 0 where
 abbrev pub memory : List ℕ → List ℕ → Memory
 memory w b = record { words = w; bytes = b }
 
--- the memory w with e stored from m on: for 'reading some text .. would leave exactly this content'
+-- the memory w with e stored from m on
 abbrev pub written : Memory → Mark → Expr → Memory
 written w m e = record { words = sets (w .words) (4 * m .nodes) (exprNodes (m .nodes) (m .bytes) e); bytes = sets (w .bytes) (m .bytes) (exprBytes e) }
 
@@ -64,7 +64,7 @@ pub record Room (s : List ℕ) (at : ℕ) (m : Mark) (o : ℕ) (w : Memory) : Ty
   pub short : m .bytes ≤ at
   pub bytes : length s ≤ length (w .bytes)
 
--- a string of n bytes behind its opening quote, from the place i on: for 'String: `"`, bytes .., escapes .., `"`'
+-- a string of n bytes behind its opening quote, from the place i on
 pub record StringFrom (s : List ℕ) (i n : ℕ) : Type 0 where
   pub place : i ≤ length s
   pub rest : List ℕ
@@ -72,7 +72,7 @@ pub record StringFrom (s : List ℕ) (i n : ℕ) : Type 0 where
   pub text : ℕ
   pub string : bodyOf (drop i s) ≡ closed rest text
 
--- a name that stands from p up to q has room: for '16,384 bytes of names and strings'
+-- a name that stands from p up to q has room
 pub record NameRoom (s : List ℕ) (p q : ℕ) (m : Mark) (o : ℕ) (w : Memory) : Type 0 where
   pub low : p < q
   pub high : q ≤ length s
@@ -81,7 +81,7 @@ pub record NameRoom (s : List ℕ) (p q : ℕ) (m : Mark) (o : ℕ) (w : Memory)
   pub short : m .bytes ≤ p
   pub bytes : length s ≤ length (w .bytes)
 
--- a string of n bytes, whose quotes stand at p and before q, has room: for '16,384 bytes of names and strings'
+-- a string of n bytes, whose quotes stand at p and before q, has room
 pub record StringRoom (s : List ℕ) (p q n : ℕ) (m : Mark) (o : ℕ) (w : Memory) : Type 0 where
   pub low : p + n < q
   pub high : q ≤ length s
@@ -121,8 +121,7 @@ LeafOk s at m o w w′ (Done q n k) = (e : Expr) × ((f d : ℕ) → primaryAt l
 LeafOk s at m o w w′ (Refused k p) = (f d : ℕ) → primaryAt limits (suc f) (tokensAt s at) d (m .nodes + o) ≡ refused k p
 LeafOk s at m o w w′ (Open p q) = (f d : ℕ) → primaryAt limits (suc f) (tokensAt s at) d (m .nodes + o) ≡ level limits d p (λ _. after (conditionalAt limits f (tokensAt s q) (d + 1) (m .nodes + o)) (λ e u. want (symbol CloseParenthesis) u (λ v. ok e v)))
 
--- where the reader is behind a literal or reference, or behind the parenthesis: for 'the falling number is bytes left with the
--- binding level'
+-- where the reader is behind a literal or reference, or behind the parenthesis
 abbrev pub LeafWithin : List ℕ → ℕ → Mark → ℕ → Memory → Memory → Leaf → Type 0
 LeafWithin s at m o w w′ (Done q n k) = Inside s at 1 m o q n k
 LeafWithin s at m o w w′ (Refused k p) = Unit {0}

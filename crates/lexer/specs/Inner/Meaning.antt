@@ -20,7 +20,7 @@ use Rattle.lexer.specs.declared.StringEnd.the-variants as E
 use Rattle.lexer.specs.declared.Sign.{Sign}
 use Rattle.lexer.specs.declared.Sign.the-variants as G
 
--- the tokens of s from the place at on: for 'tokens left to right'
+-- the tokens of s from the place at on
 abbrev pub tokensAt : List ℕ → ℕ → Tokens
 tokensAt s at = tokensFrom 0 at (drop at s)
 
@@ -32,16 +32,16 @@ literalOf (C.Boolean b) = boolean b
 literalOf (C.Integer n) = integer n
 literalOf (C.Real n places) = real n places
 
--- the bytes of a string behind its opening quote: for 'string 1,024 bytes after escapes'
+-- the bytes of a string behind its opening quote
 abbrev pub bytesOf : Body → List ℕ
 bytesOf (closed xs n) = xs
 bytesOf broken = []
 
--- the string whose opening quote is at p: for 'String: `"`, bytes .., escapes .., `"`'
+-- the string whose opening quote is at p
 abbrev pub stringAt : List ℕ → ℕ → List ℕ
 stringAt s p = bytesOf (bodyOf (drop (p + 1) s))
 
--- the tokens of s from the token t on: p is the place of its first byte, q the place behind it: for 'its first byte is the place'
+-- the tokens of s from the token t on: p is the place of its first byte, q the place behind it
 abbrev pub means : List ℕ → Token → Tokens
 means s (K.End p) = end p
 means s (K.Bad k p) = bad k p
@@ -51,13 +51,11 @@ means s (K.String n p q) = next p (T.constant (string (stringAt s p))) (tokensAt
 means s (K.Operator j p q) = next p (T.operator j) (tokensAt s q)
 means s (K.Symbol x p q) = next p (T.symbol x) (tokensAt s q)
 
--- the tokens of s from the place p on, where the front token is x: for 'the first token that breaks a rule decides, its first
--- byte is the place'
+-- the tokens of s from the place p on, where the front token is x
 abbrev pub placed : List ℕ → ℕ → Front → Tokens
 placed s p x = onFront x p (λ t n. next p t (tokensFrom (n - 1) (p + 1) (drop (p + 1) s)))
 
--- a token from the place at on lies within the text, and a string has n bytes, fewer than its text: for 'the falling number is
--- bytes left'
+-- a token from the place at on lies within the text, and a string has n bytes, fewer than its text
 abbrev pub Span : List ℕ → ℕ → Token → Type 0
 Span s at (K.End p) = Unit {0}
 Span s at (K.Bad k p) = Unit {0}
@@ -67,12 +65,12 @@ Span s at (K.String n p q) = (at ≤ p) × (p + n < q) × (q ≤ length s) × (n
 Span s at (K.Operator j p q) = (at ≤ p) × (p < q) × (q ≤ length s)
 Span s at (K.Symbol x p q) = (at ≤ p) × (p < q) × (q ≤ length s)
 
--- the token from the place at on: for 'tokens left to right'
+-- the token from the place at on
 pub record Scanned (s : List ℕ) (at : ℕ) (t : Token) : Type 0 where
   pub means-it : tokensAt s at ≡ means s t
   pub span : Span s at t
 
--- the token at the place p, whose front token is x: for 'its first byte is the place'
+-- the token at the place p, whose front token is x
 pub record Placed (s : List ℕ) (p : ℕ) (x : Front) (t : Token) : Type 0 where
   pub means-it : placed s p x ≡ means s t
   pub span : Span s p t
@@ -94,7 +92,7 @@ abbrev pub classOf : Bool → ℕ → Bool
 classOf true = isDigit
 classOf false = continuesName
 
--- the bytes of a class from at on end at r: for 'Longest token wins.'
+-- the bytes of a class from at on end at r
 pub record Run (class : ℕ → Bool) (s : List ℕ) (at r : ℕ) : Type 0 where
   pub low : at ≤ r
   pub high : r ≤ length s
@@ -108,22 +106,21 @@ pub record Fraction (s : List ℕ) (at r : ℕ) : Type 0 where
   pub digits : fractionOf (drop at s) ≡ slice (at + 1) r s
   pub some : at < r → at + 1 < r
 
--- a byte of a class is at the place p: a token begins there, for 'Name: a letter or `_`, ..' and 'Integer: digits'
+-- a byte of a class is at the place p: a token begins there
 pub record AtByte (class : ℕ → Bool) (s : List ℕ) (p : ℕ) : Type 0 where
   pub inside : p < length s
   pub byte : class (getD s p 0) ≡ true
 
--- a backslash is at the place i: for 'escapes `\"` `\\` `\n` `\t`'
+-- a backslash is at the place i
 pub record AtBackslash (s : List ℕ) (i : ℕ) : Type 0 where
   pub inside : i < length s
   pub backslash : getD s i 0 ≡ 92
 
--- the largest number that is told apart: over 15 digits, and over the range of an Integer: for 'Integer over the range, Real over
--- 15 digits'
+-- the largest number that is told apart: over 15 digits, and over the range of an Integer
 abbrev pub cap : ℕ
 cap = 1000000000000000
 
--- the digits from p up to q read after v, but no more than the cap: for 'digits, read in base ten whatever the first digit'
+-- the digits from p up to q read after v, but no more than the cap
 abbrev pub valueTo : ℕ → List ℕ → ℕ
 valueTo v ds = min (valueFrom v ds) cap
 
@@ -151,7 +148,7 @@ signFront (G.Operator j n) = good (T.operator j) n
 signFront (G.Symbol x n) = good (T.symbol x) n
 signFront G.Nothing = wrong 3
 
--- a symbol or operator of n bytes at p ends in the text: for 'Longest token wins.'
+-- a symbol or operator of n bytes at p ends in the text
 abbrev pub SignFits : List ℕ → ℕ → Sign → Type 0
 SignFits s p (G.Operator j n) = (1 ≤ n) × (p + n ≤ length s)
 SignFits s p (G.Symbol x n) = (1 ≤ n) × (p + n ≤ length s)

@@ -59,7 +59,7 @@ Flagged x before after = (after ≡ before) ⊎ (after ≡ set before x 1)
 
 -- ---- what a transition goes by: facts of the place and of the node or link at hand, and none of the other marks
 
--- the i-th node, x, of n is to be resolved: for 'the one node or link at hand alone'
+-- the i-th node, x, of n is to be resolved
 pub record AtNode (G : Graph) (i n x found : ℕ) : Type 0 where
   pub size-is : n ≡ G .size
   pub node-is : x ≡ G .nth i
@@ -80,7 +80,13 @@ pub record AtLoopLink (G : Graph) (x y i : ℕ) (refers : Bool) (target marks : 
 -- a loop search, of n, is at x, which has no link left
 pub record AtLoopLast (G : Graph) (n x : ℕ) (target marks : List ℕ) : Type 0 where
   pub size-is : n ≡ G .size
+  pub slots-are : G .slots ≡ marksRoom
   pub over : length (led G (numbers target) x) ≤ markAt marks 2 x
+
+-- a loop search, of n, is to close a node
+pub record AtClose (G : Graph) (n : ℕ) : Type 0 where
+  pub size-is : n ≡ G .size
+  pub slots-are : G .slots ≡ marksRoom
 
 -- list search k is to begin, at y
 pub record AtStart (G : Graph) (k y : ℕ) : Type 0 where
@@ -95,10 +101,11 @@ pub record AtLink (G : Graph) (x y i : ℕ) (target marks flag : List ℕ) : Typ
 
 -- a list search is at x, which has no need left and was entered from f
 pub record AtLast (G : Graph) (x f : ℕ) (target marks flag : List ℕ) : Type 0 where
+  pub slots-are : G .slots ≡ marksRoom
   pub over : length (needed G (numbers target) (raised flag) x) ≤ markAt marks 2 x
   pub from-is : f ≡ markAt marks 1 x
 
--- the list grows from len to len′ entries, and what lies behind them stays: for 'only that node's marks or one entry of the list'
+-- the list grows from len to len′ entries, and what lies behind them stays
 pub record Grows (len len′ : ℕ) (list list′ : List ℕ) : Type 0 where
   pub longer : len ≤ len′
   pub fits : len ≤ length list → len′ ≤ length list

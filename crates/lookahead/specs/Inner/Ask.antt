@@ -11,7 +11,7 @@ use Rattle.syntax.specs.Reader.{isToken}
 use Rattle.syntax.specs.declared.Binary.{Binary}
 use Rattle.syntax.specs.declared.Unary.{Unary}
 use Rattle.syntax.specs.declared.Symbol.{Symbol}
-use Rattle.lexer.specs.Meaning.{tokensAt}
+use Rattle.lexer.specs.Inner.Meaning.{tokensAt}
 use Rattle.lookahead.specs.declared.SymbolAt.{SymbolAt}
 use Rattle.lookahead.specs.declared.SymbolAt.the-variants as S
 use Rattle.lookahead.specs.declared.WordAt.{WordAt}
@@ -21,13 +21,13 @@ use Rattle.lookahead.specs.declared.BinaryAt.the-variants as B
 use Rattle.lookahead.specs.declared.UnaryAt.{UnaryAt}
 use Rattle.lookahead.specs.declared.UnaryAt.the-variants as U
 
--- the token in front is not the symbol or operator x: for 'token does not fit the grammar'
+-- the token in front is not the symbol or operator x
 abbrev pub NotToken : Token → Tokens → Type 0
 NotToken x (next p t u) = isToken x t ≡ false
 NotToken x (end n) = Unit {0}
 NotToken x (bad k p) = Unit {0}
 
--- the token in front is no Name: for 'token does not fit the grammar'
+-- the token in front is no Name
 abbrev pub NotWord : Tokens → Type 0
 NotWord (next p (word w) u) = ⊥
 NotWord (next p (constant l) u) = Unit {0}
@@ -36,7 +36,7 @@ NotWord (next p (symbol x) u) = Unit {0}
 NotWord (end n) = Unit {0}
 NotWord (bad k p) = Unit {0}
 
--- the token in front is no operator that binds at b: for 'Binding, loosest first: ..'
+-- the token in front is no operator that binds at b
 abbrev pub NotBinary : ℕ → Tokens → Type 0
 NotBinary b (next p (word w) u) = Unit {0}
 NotBinary b (next p (constant l) u) = Unit {0}
@@ -52,7 +52,7 @@ Misfit k p (next q t u) = (k ≡ 4) × (p ≡ q)
 Misfit k p (end n) = (k ≡ 4) × (p ≡ n)
 Misfit k p (bad j q) = (k ≡ j) × (p ≡ q)
 
--- the token at `at` is t, at p, and behind it is q: for 'its first byte is the place'
+-- the token at `at` is t, at p, and behind it is q
 pub record Stands (s : List ℕ) (at p : ℕ) (t : Token) (q : ℕ) : Type 0 where
   pub low : at ≤ p
   pub wide : p < q
@@ -69,7 +69,7 @@ abbrev pub WordIs : List ℕ → ℕ → WordAt → Type 0
 WordIs s at (W.Here p q) = Stands s at p (word (slice p q s)) q
 WordIs s at (W.Absent k p) = NotWord (tokensAt s at) × Misfit k p (tokensAt s at)
 
--- an operator of two operands that binds at b: for 'Binding, loosest first: ..'
+-- an operator of two operands that binds at b
 abbrev pub BinaryIs : List ℕ → ℕ → ℕ → BinaryAt → Type 0
 BinaryIs s at b (B.Here j p q) = (bindsOf j ≡ b) × Stands s at p (operator j) q
 BinaryIs s at b B.Absent = NotBinary b (tokensAt s at)
