@@ -25,7 +25,7 @@ use Rattle.values.specs.declared.Value.the-variants.{Undefined}
 use Rattle.nodes.specs.declared.Node.the-variants.{Constant, Reference, OfOne, OfTwo, Conditional}
 use Rattle.nodes.specs.Nodes.{literalValue, nodeOf, valueIn}
 use Rattle.nodes.specs.Laws.Integers.{integer-literal}
-use Rattle.nodes.specs.Laws.Stored.{LiteralFits, literal-value, reference-node, unary-node, binary-node}
+use Rattle.nodes.specs.Laws.Stored.{LiteralFits, literal-value, reference-node, unary-node, conditional-node, binary-node}
 use Rattle.valuation.specs.Gives.{Give, nil, cons, Gives}
 use Rattle.valuation.specs.Laws.Transfer.{Alike, anil, acons}
 use Rattle.evaluation.specs.Evaluation.{nodeFrom}
@@ -88,7 +88,7 @@ module _ {w b : List ℕ} {i : ℕ} (second : Bool) where
 
   as-conditional : {x y z : ℕ} → Says w b i (ofThree x y z) → nodeFrom second w i ≡ Conditional
   unfolding wordsOf
-  as-conditional s = from-words s
+  as-conditional {x} {y} s = from-words s ∙ conditional-node second x y
 
 -- ---- values
 
