@@ -1,7 +1,7 @@
 -- What a real literal is worth, and what an Integer is as a Real. Assumes nothing.
 use Prim.Native.Nat.{ℕ, _^_}
 use mathlib.Core.Bool.{Bool, false, cond, _&&_}
-use lib.Dec.{ltb}
+use lib.Dec.{leb, ltb}
 use lib.IntN.{pos}
 use lib.Ieee.{Float, binary64, round, ofInt}
 use Rattle.integers.specs.Integers.{signed}
@@ -11,13 +11,12 @@ use Rattle.integers.specs.Integers.{signed}
 abbrev pub literalReal : ℕ → ℕ → Float
 literalReal digits places = round binary64 false digits (10 ^ places)
 
--- 'at most 15 digits in all', of which at least one stands before the point: what a literal's numbers never pass (its places
--- are 1 at least)
+-- the numbers of a real literal: 'digits, a point, digits; at most 15 digits in all', so that 1 to 14 stand after the point
 abbrev pub inRange : ℕ → ℕ → Bool
-inRange digits places = ltb digits (10 ^ 15) && ltb places 15
+inRange digits places = ltb digits (10 ^ 15) && (leb 1 places && ltb places 15)
 
--- the Real of any two stored numbers: within that range 'the whole number of its digits divided by the power of ten of its
--- places', and 0.0 beyond it
+-- the Real of any two stored numbers: of a literal's 'the whole number of its digits divided by the power of ten of its places',
+-- and 0.0 of all others
 abbrev pub storedReal : ℕ → ℕ → Float
 storedReal digits places = cond (inRange digits places) (literalReal digits places) (ofInt binary64 (pos 0))
 

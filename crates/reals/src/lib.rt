@@ -37,17 +37,20 @@ fn quotient(digits: u64, places: usize) -> f64
     (digits as f64) / (power_of_ten(places) as f64)
 }
 
-// The Real of a literal's two stored numbers. No literal has more digits or places; there it is 0.0.
+// The Real of a literal's two stored numbers. No literal has a number of 10^15 or more, no place or more than 14; there it is 0.0.
 pub fn literal(digits: u64, places: u64) -> f64
     ensures { λ r. ⌜ r ≡ storedReal digits places ⌝ }
 {
-    if digits < 1_000_000_000_000_000 {
-        if places < 15 {
-            return quotient(digits, places as usize);
-        }
+    if digits >= 1_000_000_000_000_000 {
         return 0.0;
     }
-    0.0
+    if places < 1 {
+        return 0.0;
+    }
+    if places >= 15 {
+        return 0.0;
+    }
+    quotient(digits, places as usize)
 }
 
 pub fn of_integer(a: u32) -> f64

@@ -126,7 +126,7 @@ pub fn real(draw: &mut Draw) -> Call {
     let (digits, places) = Case::draw(&mut draw.rng).literal;
     let mut result = draw.words("result", &[], 2);
     library::real(digits, places, result.slice_mut());
-    let answer = if digits < 10_u64.pow(15) && places < 15 {
+    let answer = if digits < 10_u64.pow(15) && (1..15).contains(&places) {
         value::real_literal(digits, places as u32)
     } else {
         Value::Real(0.0)

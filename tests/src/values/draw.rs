@@ -153,7 +153,7 @@ fn real(rng: &mut Rng) -> f64 {
     }
 }
 
-/// Digits of every length at all places; one in ten is no literal.
+/// Digits of every length at 0 to 14 places, of which 0 are no literal's; one in ten is beyond.
 fn literal(rng: &mut Rng) -> (u64, u64) {
     if rng.chance(10) {
         return match rng.below(4) {

@@ -110,7 +110,7 @@ impl<'a> Comparison<'a> {
         let (digits, places) = self.case.literal;
         let got = answer(|result| library::real(digits, places, result));
         let show = |_: &Case| format!("digits     {digits}\nplaces     {places}\n");
-        if digits >= 10_u64.pow(15) || places >= 15 {
+        if digits >= 10_u64.pow(15) || !(1..15).contains(&places) {
             self.compare(NO_LITERAL_ROW, got, self.expected(Value::Real(0.0)), show);
             return;
         }

@@ -7,7 +7,7 @@ use mathlib.Core.List.{List}
 use lib.ListN.{length, getD}
 use lib.Dec.{ltb}
 use lib.Ieee.{Float}
-use borrow.Author.Tests.{lt-ltb}
+use borrow.Author.Tests.{lt-ltb, le-leb}
 use Rattle.syntax.specs.Bounds.{maxInteger}
 use Rattle.syntax.specs.Tree.{Literal, undefined, error, boolean, integer, real, string, Scope, own, other}
 use Rattle.syntax.specs.declared.Binary.{Binary}
@@ -29,7 +29,7 @@ LiteralFits o undefined = Unit {0}
 LiteralFits o error = Unit {0}
 LiteralFits o (boolean b) = Unit {0}
 LiteralFits o (integer n) = n ≤ maxInteger
-LiteralFits o (real n places) = (n < 10 ^ 15) × (places < 15)
+LiteralFits o (real n places) = (n < 10 ^ 15) × (1 ≤ places) × (places < 15)
 LiteralFits o (string l) = (o < 65536) × (length l < 65536)
 
 -- A STORED LITERAL HAS THE LITERAL'S VALUE
@@ -43,7 +43,7 @@ literal-value second o (boolean false) h = refl
 literal-value second o (integer n) h = ap (λ (x : ℕ). Constant (Integer x)) (let q : n % 4294967296 ≡ n = omega arith in q)
 literal-value second o (real n places) h =
     ap (λ (b : Bool). Constant (Real (cond b (literalReal n places) (storedReal 0 15))))
-    (ap₂ _&&_ (lt-ltb n (10 ^ 15) (h .0)) (lt-ltb places 15 (h .1)))
+    (ap₂ _&&_ (lt-ltb n (10 ^ 15) (h .0)) (ap₂ _&&_ (le-leb 1 places (h .1)) (lt-ltb places 15 (h .2))))
 literal-value second o (string l) h =
     ap₂ (λ (x y : ℕ). Constant (String second x y)) (let q : o % 65536 ≡ o = omega (arith, h .0) in q) (let q : length l % 65536 ≡ length l = omega (arith, h .1) in q)
 

@@ -45,10 +45,12 @@ literal-fits o undefined h k = tt
 literal-fits o error h k = tt
 literal-fits o (boolean b) h k = tt
 literal-fits o (integer n) h k = leb-true n maxInteger h
-literal-fits o (real n places) h k = (
-  ltb-true n (10 ^ realDigits) (and-left (ltb n (10 ^ realDigits)) (leb 1 places && ltb places realDigits) h),
-  ltb-true places realDigits (and-right (leb 1 places) (ltb places realDigits) (and-right (ltb n (10 ^ realDigits)) (leb 1 places && ltb places realDigits) h)),
-)
+literal-fits o (real n places) h k =
+    let some : (leb 1 places && ltb places realDigits) ≡ true = and-right (ltb n (10 ^ realDigits)) (leb 1 places && ltb places realDigits) h in (
+      ltb-true n (10 ^ realDigits) (and-left (ltb n (10 ^ realDigits)) (leb 1 places && ltb places realDigits) h),
+      leb-true 1 places (and-left (leb 1 places) (ltb places realDigits) some),
+      ltb-true places realDigits (and-right (leb 1 places) (ltb places realDigits) some),
+    )
 literal-fits o (string l) h k =
     (k, let q : length l ≤ stringBytes = leb-true (length l) stringBytes (and-right (every inString l) (leb (length l) stringBytes) h) in omega arith)
 

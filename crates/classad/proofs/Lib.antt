@@ -1,4 +1,0 @@
-pub mod Three
-pub mod Checking
-pub mod Inspected
-pub mod Naming
