@@ -1,11 +1,10 @@
 // Evaluation: the step, which works out one node's value, and the run over the list.
 // v and b are the words and bytes of the first ad, w and c those of the second.
 ghost use mathlib.Core.Path.{_≡_};
-ghost use mathlib.Core.Bool.{Bool};
 ghost use mathlib.Core.List.{List, map};
 ghost use Prim.Native.Nat.{ℕ, _+_, _-_, _≤_, _<_};
 ghost use lib.ListN.{length, getD};
-ghost use Rattle.links.specs.Pair.{pairGraph, Formed, Stands};
+ghost use Rattle.links.specs.Pair.{pairGraph};
 ghost use Rattle.slots.specs.Packed.{slotAt};
 ghost use Rattle.nodes.specs.Nodes.{valueIn};
 ghost use Rattle.evaluation.specs.Evaluation.{nodeFrom, nodeAt, ruleAt, seen, needed, entries, Stepped, RunTo, AtStep, AtRun};

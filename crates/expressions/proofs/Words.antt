@@ -1,15 +1,15 @@
 -- The memory of an expression, stored one operand after the other. Assumes nothing.
-use Prim.Native.Nat.{ℕ, suc, _+_, _-_, _*_, _≤_, _<_}
+use Prim.Native.Nat.{ℕ, _+_, _-_, _*_}
 use native.Mathlib.Omega.{arith}
 use mathlib.Core.Path.{_≡_, refl, sym, _∙_, ap}
-use mathlib.Core.List.{List, [], _∷_, _++_}
+use mathlib.Core.List.{List, _++_}
 use lib.ListN.{length, length-append}
 use lib.Seq.{sets}
 use Rattle.text.specs.Parts.{sets-append}
 use Rattle.syntax.specs.Tree.{Literal, undefined, error, boolean, integer, real, string, Expr, literal, reference, unary, binary, conditional, size}
 use Rattle.syntax.specs.declared.Binary.{Binary}
 use Rattle.syntax.specs.declared.Unary.{Unary}
-use Rattle.ad.specs.Layout.{unaryKind, binaryKind, node, literalNode, literalBytes, exprNodes, exprBytes}
+use Rattle.ad.specs.Layout.{unaryKind, binaryKind, node, literalNode, exprNodes, exprBytes}
 use Rattle.leaves.specs.Inner.Marks.{Mark, mark, past, Memory, memory, written}
 
 length-literal : (o : ℕ) (l : Literal) → length (literalNode o l) ≡ 4

@@ -8,7 +8,6 @@ use syntax::Symbol;
 use syntax::Unary;
 ghost use mathlib.Core.Path.{_≡_};
 ghost use Prim.Native.Nat.{_+_, _≤_, _<_};
-ghost use lib.ListN.{length};
 ghost use Rattle.ad.specs.Layout.{unaryKind, binaryKind};
 ghost use Rattle.leaves.specs.Inner.Marks.{mark, memory, Room};
 ghost use Rattle.expressions.specs.Inner.Post.{Within, ConditionalOk, BinaryOk, UnaryOk, PrimaryOk, ArmsOk, RestOk};

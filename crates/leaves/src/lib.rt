@@ -11,7 +11,7 @@ ghost use lib.ListN.{length, drop};
 ghost use lib.Seq.{sets, slice};
 ghost use Rattle.syntax.specs.Token.{bodyOf};
 ghost use Rattle.lexer.specs.Inner.Meaning.{literalOf, bytesOf};
-ghost use Rattle.ad.specs.Layout.{node, literalNode};
+ghost use Rattle.ad.specs.Layout.{literalNode};
 ghost use Rattle.leaves.specs.Inner.Marks.{mark, memory, Room, StringFrom, StringRoom, NameRoom, ConstantLeaf, TextLeaf, OtherLeaf, LeafOk, LeafWithin};
 
 // What stands at a place where an operand can begin.

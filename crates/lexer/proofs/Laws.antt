@@ -5,7 +5,7 @@ use native.Mathlib.Nat.{pow-zero, pow-succ', pow-le-pow-right, mul-one, one-mul,
 use mathlib.Core.Path.{_≡_, refl, sym, _∙_, ap, subst}
 use mathlib.Core.Bool.{Bool, true, false, true≢false, _&&_, and-true}
 use mathlib.Core.List.{List, [], _∷_, _++_, append-assoc, append-nil}
-use lib.ListN.{length, getD, take, drop, length-append, length-take, length-drop, drop-of-length-le}
+use lib.ListN.{length, getD, take, drop, length-append, length-drop, drop-of-length-le}
 use lib.Seq.{slice, slice-empty, length-slice, getD-drop}
 use lib.Dec.{ltb, leb, eqb}
 use borrow.Author.Tests.{lt-ltb, le-ltb, le-leb, lt-leb, eq-eqb, ne-eqb, leb-true, leb-false, eqb-true}
@@ -14,7 +14,7 @@ use Rattle.text.specs.Strings.{sameName}
 use Rattle.text.specs.Parts.{drop-one, slice-back, slice-snoc, slice-one, drop-behind}
 use Rattle.syntax.specs.Tree.{undefined, error, boolean, integer, real, string}
 use Rattle.syntax.specs.Token as T
-use Rattle.syntax.specs.Token.{Tokens, next, end, bad, pick, Front, good, wrong, frontOf, Body, closed, broken, grown, bodyOf, escapedOf, escapeOf, stringOf, valueFrom, valueOf, fractionOf, integerFront, realFront, numberFront, nameFront, wordIn, reserved, Spelling, symbolIn, spellings, begins, frontToken, tokensFrom}
+use Rattle.syntax.specs.Token.{next, end, bad, pick, Front, good, wrong, frontOf, Body, closed, broken, grown, bodyOf, escapeOf, stringOf, valueFrom, valueOf, fractionOf, integerFront, realFront, numberFront, nameFront, wordIn, reserved, Spelling, symbolIn, spellings, begins, frontToken, tokensFrom}
 use Rattle.syntax.specs.declared.Binary.the-variants.{Or, And, Equal, NotEqual, Is, Isnt, LessOrEqual, GreaterOrEqual}
 use Rattle.syntax.specs.declared.Symbol.the-variants.{Parent, Other}
 use Rattle.lexer.specs.declared.Sign.{Sign}

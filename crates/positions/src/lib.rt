@@ -1,7 +1,6 @@
 // Where a byte of a text stands for a person: its line and its column.
 ghost use mathlib.Core.Path.{_≡_};
 ghost use Prim.Native.Nat.{_+_, _-_, _^_, _<_, min};
-ghost use lib.ListN.{length};
 ghost use Rattle.positions.specs.Positions.{lineAfter, columnAfter, Stands};
 
 // A line and a column, both from 1.

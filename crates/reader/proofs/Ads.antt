@@ -1,13 +1,10 @@
 -- The memory of an ad, stored one definition after the other, and its names found again. Assumes nothing.
-use Prim.Native.Nat.{ℕ, zero, suc, _+_, _-_, _*_, _≤_, _<_}
+use Prim.Native.Nat.{ℕ, suc, _+_, _-_, _*_, _≤_, _<_}
 use native.Mathlib.Omega.{arith}
-use native.Mathlib.Nat.{add-zero, zero-add}
-use native.Mathlib.Numerals.{add-one}
-use mathlib.Core.Path.{_≡_, refl, sym, _∙_, ap, subst}
-use mathlib.Core.Bool.{Bool, true, false, _||_}
+use mathlib.Core.Path.{_≡_, refl, sym, _∙_, ap}
 use mathlib.Core.List.{List, [], _∷_, _++_, append-assoc, append-nil}
-use lib.ListN.{length, getD, set, take, drop, length-append, length-take}
-use lib.Seq.{sets, set-comm, sets-eq, length-sets, take-append-seam, drop-append-seam, drop-drop, getD-drop, drop-at}
+use lib.ListN.{length, set, take, drop, length-append, length-take}
+use lib.Seq.{sets, set-comm, sets-eq, length-sets, drop-at}
 use Rattle.text.specs.Parts.{sets-append}
 use Rattle.syntax.specs.Tree.{Expr, Definition, Ad, size, nodes}
 use Rattle.syntax.specs.Grammar.{defined}
@@ -16,7 +13,7 @@ use Rattle.ad.specs.Stored.{definedIn}
 use Rattle.ad.specs.Laws.Names.{names-in}
 use Rattle.leaves.specs.Inner.Marks.{Mark, mark, Memory, memory}
 use Rattle.expressions.proofs.Words.{length-nodes, stores, marks}
-use Rattle.reader.specs.Inner.Post.{ends, storedIn, Holds, one}
+use Rattle.reader.specs.Inner.Post.{storedIn, Holds, one}
 
 -- ---- one definition more
 

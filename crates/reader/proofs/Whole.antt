@@ -1,21 +1,20 @@
 -- What the whole reader answers and leaves. Assumes nothing.
-use Prim.Native.Nat.{ℕ, zero, suc, _+_, _-_, _*_, _≤_, _<_}
+use Prim.Native.Nat.{ℕ, zero, suc, _+_, _-_, _≤_, _<_}
 use native.Mathlib.Omega.{arith}
 use native.Mathlib.Nat.{zero-add}
 use mathlib.Core.Path.{_≡_, refl, sym, _∙_, ap}
-use mathlib.Core.Bool.{Bool, true, false, _||_}
-use mathlib.Core.List.{List, [], _∷_, _++_, append-assoc}
+use mathlib.Core.List.{List, _++_, append-assoc}
 use lib.ListN.{length, take, drop, replicate, length-append, length-replicate, replicate-append-replicate}
-use lib.Seq.{sets, sets-eq, take-at, drop-at, drop-append-add}
+use lib.Seq.{sets, sets-eq, take-at, drop-append-add}
 use borrow.Author.Tests.{lt-ltb, le-ltb}
-use Rattle.syntax.specs.Tree.{Ad, nodes}
+use Rattle.syntax.specs.Tree.{nodes}
 use Rattle.syntax.specs.Reader as R
 use Rattle.syntax.specs.Reader.{parse, read}
 use Rattle.syntax.specs.Laws.Accepts.{accepts}
 use Rattle.ad.specs.Layout.{padded, adNodes, adDefinitions, adBytes, storedWords, storedBytes}
 use Rattle.leaves.specs.Inner.Marks.{Memory, memory}
-use Rattle.reader.specs.Content.{answerOf, wordsOf, bytesOf, answer, wordsAfter, bytesAfter, Answered, Left, Cleared}
-use Rattle.reader.specs.Inner.Post.{storedIn, AgreesAd}
+use Rattle.reader.specs.Content.{answer, wordsAfter, bytesAfter, Answered, Left, Cleared}
+use Rattle.reader.specs.Inner.Post.{AgreesAd}
 use Rattle.reader.specs.declared.Answer.{Answer}
 use Rattle.reader.specs.declared.Answer.the-variants.{Accepted, Refused}
 use Rattle.reader.proofs.Ads.{length-ad-nodes, length-ad-definitions}

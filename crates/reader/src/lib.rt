@@ -4,7 +4,6 @@ use lexer::Token;
 use lookahead::SymbolAt;
 use lookahead::WordAt;
 use syntax::Symbol;
-ghost use mathlib.Core.Path.{_≡_};
 ghost use Prim.Native.Nat.{_+_, _≤_, _<_};
 ghost use lib.ListN.{length};
 ghost use Rattle.leaves.specs.Inner.Marks.{mark, memory};

@@ -9,10 +9,10 @@ ghost use lib.Dec.{ltb, eqb};
 ghost use Rattle.syntax.specs.Tree.{real, string};
 ghost use Rattle.syntax.specs.Print.{decimal, literalText, binaryText};
 ghost use Rattle.lexemes.specs.Inner.Lexeme.{every, isName, isString, isReal};
-ghost use Rattle.ad.specs.Stored.{bytesAt, binaryOf};
+ghost use Rattle.ad.specs.Stored.{bytesAt};
 ghost use Rattle.well_formed.specs.declared.Walk.the-variants.{Tree};
 ghost use Rattle.well_formed.specs.WellFormed.{AnswersRoom, Answers};
-ghost use Rattle.well_formed.specs.Inner.Decode.{oneFits, twoFits, threeFits, shapeOf, shapeAt, keywordFits, booleanFits, integerFits, standsAt, leafAt, treeAt, Same, WalkOk, entryFits, adAt, SameAd, newFrom, isZero, zeroBehind, walkIf, plainWalk, unaryWalk, binaryWalk, conditionalWalk, Room, rowBefore, RowsSmall, RowsRoom, RowsOk};
+ghost use Rattle.well_formed.specs.Inner.Decode.{oneFits, twoFits, threeFits, shapeOf, shapeAt, keywordFits, booleanFits, integerFits, standsAt, leafAt, Same, WalkOk, entryFits, newFrom, isZero, zeroBehind, walkIf, plainWalk, unaryWalk, binaryWalk, conditionalWalk, Room, rowBefore, RowsSmall, RowsRoom, RowsOk};
 
 // What the nodes of a run are: a leaf, or an operator with the last nodes of its operands.
 pub enum Shape {

@@ -11,7 +11,7 @@ use Rattle.syntax.specs.Bounds.{maxNodes}
 use Rattle.ad.specs.Stored.{kindAt, operandAt, arity, unaryOf, binaryOf, isReference, operands, nameAt, find}
 use Rattle.graph.specs.Members.{_∈_, here, there, Each}
 use Rattle.graph.specs.Laws.Members.{ltb-yes, ltb-no}
-use Rattle.graph.specs.Graph.{Graph, Node, Flags, needs}
+use Rattle.graph.specs.Graph.{Node, Flags, needs}
 use Rattle.links.specs.Pair.{numbered, linked, inside, across, linksFrom, refersAt, both, rootsOf, requirements, rank, pairGraph, Formed}
 use Rattle.links.specs.Laws.Counting.{nodes-few, found-root}
 use Rattle.links.specs.Laws.Soundness.{both-low, both-high, root-in, links-each, pair-sound}
@@ -185,12 +185,6 @@ rank-turned (String s o n) = refl
 -- ---- the graph
 
 module _ (v b w c : List ℕ) (f : Formed v) (g : Formed w) where
-  abbrev G : Graph
-  G = pairGraph v b w c
-
-  abbrev G′ : Graph
-  G′ = pairGraph w c v b
-
   small : (x : ℕ) → Node (pairGraph v b w c) x → x < maxNodes + maxNodes
   unfolding pairGraph
   small x n = pair-sound v b w c f g .in-slots x n

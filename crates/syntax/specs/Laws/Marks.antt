@@ -1,17 +1,15 @@
 -- The tokens of a text: their places are in it, and a bad one has the number 3, 5 or 7. Assumes nothing.
-use Prim.Native.Nat.{ℕ, zero, suc, _+_, _-_, _≤_, _<_}
+use Prim.Native.Nat.{ℕ, zero, suc, _+_, _-_, _≤_}
 use Prim.Native.Char.{code}
 use native.Mathlib.Omega.{arith}
-use mathlib.Core.Path.{_≡_, refl}
-use mathlib.Core.Bool.{Bool, true, false}
-use mathlib.Core.List.{List, [], _∷_, _++_}
+use mathlib.Core.List.{List, [], _∷_}
 use lib.ListN.{length, drop}
 use lib.Dec.{ltb, eqb}
 use Rattle.text.specs.Bytes.{isBlank, isDigit, startsName}
 use Rattle.syntax.specs.Bounds.{nameBytes, stringBytes, maxInteger, realDigits}
-use Rattle.syntax.specs.Token.{Token, Tokens, next, end, bad, pick, Front, good, wrong, Spelling, frontOf, nameFront, integerFront, realFront, numberFront, fractionOf, valueOf, Body, closed, broken, stringOf, bodyOf, begins, symbolIn, spellings, frontToken, onFront, tokensFrom}
+use Rattle.syntax.specs.Token.{Token, Tokens, pick, Front, good, wrong, Spelling, frontOf, nameFront, integerFront, realFront, numberFront, fractionOf, valueOf, Body, closed, broken, stringOf, bodyOf, begins, symbolIn, spellings, frontToken, onFront, tokensFrom}
 use Rattle.syntax.specs.Laws.Codes.{on-pick}
-use Rattle.syntax.specs.Laws.Sound.{Number, Marked}
+use Rattle.syntax.specs.Laws.Sound.{Marked}
 
 -- a refusal of a token
 abbrev Small : Front → Type 0

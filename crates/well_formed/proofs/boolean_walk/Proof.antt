@@ -1,5 +1,4 @@
 use mathlib.Core.Path.{sym, _∙_}
-use Prim.Native.Nat.{_-_}
 use lib.Dec.{leb, eqb}
 use Rattle.well_formed.proofs.Tests.{walk-if, walk-bad}
 use Rattle.well_formed.specs.Inner.Decode.{booleanFits}
@@ -9,9 +8,6 @@ use native.Mathlib.Omega.{arith}
 use borrow.Author.Needs.{needs}
 use Rattle.well_formed.proofs.boolean_walk.Statement.{statement}
 use Rattle.well_formed.proofs.boolean_walk.Tie as tie
-use Rattle.well_formed.proofs.boolean_walk.Reads as reads
-use Rattle.well_formed.proofs.boolean_walk.Lts as lts
-use Rattle.lexemes.proofs.both.Reads as both-reads
 
 sub-t7 : tie.Need-sub-t7
 sub-t7 c =

@@ -1,5 +1,5 @@
 -- How long and how deep an expression prints, at most. Assumes nothing.
-use Prim.Native.Nat.{ℕ, _+_, _-_, _*_, _^_, _≤_, _<_}
+use Prim.Native.Nat.{ℕ, _+_, _*_, _^_, _≤_, _<_}
 use Prim.Native.Char.{code}
 use native.Mathlib.Omega.{arith}
 use mathlib.Core.Path.{_≡_, refl, _∙_}
@@ -98,9 +98,6 @@ length-wrap k b t = go (ltb b k)
     go : (c : Bool) → length (pick c (λ _. code "(" ∷ (t ++ code ")" ∷ [])) (λ _. t)) ≡ cond c (length t + 2) (length t)
     go true = simp length-append (omega arith)
     go false = refl
-
-wrap-short : (k b : ℕ) (t : List ℕ) → length (wrap k b t) ≤ length t + 2
-wrap-short k b t = omega (arith, length-wrap k b t, around-short k b (length t) 2)
 
 -- ---- expressions
 
