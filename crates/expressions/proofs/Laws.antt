@@ -9,7 +9,7 @@ use Rattle.syntax.specs.Tree.{Expr, unary, binary, conditional, size}
 use Rattle.syntax.specs.Token as T
 use Rattle.syntax.specs.Token.{Tokens, next, end, bad}
 use Rattle.syntax.specs.Grammar.{bindsOf, unaryToken}
-use Rattle.syntax.specs.Reader.{Parsed, ok, refused, misfit, onBinary, onUnary, after, want, level, room, limits, conditionalAt, armsAt, unaryAt, primaryAt}
+use Rattle.syntax.specs.Reader.{Parsed, ok, refused, onBinary, onUnary, after, want, level, room, limits, conditionalAt, armsAt, unaryAt, primaryAt}
 use Rattle.syntax.specs.declared.Binary.{Binary}
 use Rattle.syntax.specs.declared.Unary.{Unary}
 use Rattle.syntax.specs.declared.Unary.the-variants.{Not, Plus, Minus}
@@ -17,7 +17,7 @@ use Rattle.syntax.specs.declared.Symbol.the-variants.{Question, Colon, ClosePar
 use Rattle.lexer.specs.Inner.Meaning.{tokensAt}
 use Rattle.lookahead.specs.Inner.Ask.{NotToken, NotBinary, Misfit, Stands}
 use Rattle.ad.specs.Layout.{unaryKind, binaryKind, node}
-use Rattle.leaves.specs.Inner.Marks.{Mark, past, Memory, written, left, LeafOk}
+use Rattle.leaves.specs.Inner.Marks.{Mark, Memory, written, left, LeafOk}
 use Rattle.leaves.specs.declared.Leaf.the-variants as L
 use Rattle.leaves.proofs.Laws.{fewer-left, misfit-of, token-off}
 use Rattle.expressions.specs.Inner.Post.{Within, ConditionalOk, BinaryOk, UnaryOk, PrimaryOk, ArmsOk, RestOk}

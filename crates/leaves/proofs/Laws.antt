@@ -1,5 +1,5 @@
 -- Literals and references stored, over plain variables. Assumes nothing.
-use Prim.Native.Nat.{ℕ, zero, suc, _+_, _-_, _*_, _≤_, _<_}
+use Prim.Native.Nat.{ℕ, suc, _+_, _-_, _*_, _≤_, _<_}
 use native.Mathlib.Omega.{arith}
 use native.Mathlib.Nat.{add-zero}
 use native.Mathlib.Numerals.{add-one}
@@ -72,7 +72,7 @@ shorter s i n m e f = subst (StringFrom s i) e f
 pub stores : {w w′ b b′ : List ℕ} → w ≡ w′ → b ≡ b′ → memory w b ≡ memory w′ b′
 stores p q = λ i. record { words = p i; bytes = q i }
 
-marks : {n n′ k k′ : ℕ} → n ≡ n′ → k ≡ k′ → mark n k ≡ mark n′ k′
+pub marks : {n n′ k k′ : ℕ} → n ≡ n′ → k ≡ k′ → mark n k ≡ mark n′ k′
 marks p q = λ i. record { nodes = p i; bytes = q i }
 
 pub text-stored : (kind n k l : ℕ) (xs w b u z : List ℕ) → length xs ≡ l → u ≡ sets w (4 * n) (node kind k l 0) → z ≡ sets b k xs → memory u z ≡ memory (sets w (4 * n) (node kind k (length xs) 0)) (sets b k xs)

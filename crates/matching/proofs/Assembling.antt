@@ -37,7 +37,7 @@ finished-by steps count {p} {q} {r} {x} {y} {i} {j} {m} {n} e a b d f =
     ap (λ (z : Bool). Finished z i j steps count) (e ∙ ap (λ (z : Bool). z && q) a ∙ ap (λ (z : Bool). x && z) b)
     ∙ ap (λ (z : ℕ). Finished (x && y) z j steps count) d ∙ ap (λ (z : ℕ). Finished (x && y) m z steps count) f
 
-blank-zeros : (n x : ℕ) → slotAt (replicate n 0) x ≡ Blank
+pub blank-zeros : (n x : ℕ) → slotAt (replicate n 0) x ≡ Blank
 blank-zeros n x = rw (clear-zeros n (x * 2)) refl
 
 pub clear-long : {l : List ℕ} → l ≡ replicate 4096 0 → 4096 ≤ length l

@@ -96,7 +96,7 @@ dividend (Integer x) b h = integer-dividend x b
 dividend (Real x) b h = real-dividend x b h
 dividend (String s o n) b h = tt
 
-choose : (b : Bool) (u v : Value) → Sized u → Sized v → Sized (cond b u v)
+pub choose : (b : Bool) (u v : Value) → Sized u → Sized v → Sized (cond b u v)
 choose true u v p q = p
 choose false u v p q = q
 

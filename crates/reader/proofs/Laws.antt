@@ -13,7 +13,7 @@ use Rattle.syntax.specs.Token as T
 use Rattle.syntax.specs.Token.{Tokens, next, end, bad}
 use Rattle.syntax.specs.Grammar.{defined}
 use Rattle.syntax.specs.Reader as R
-use Rattle.syntax.specs.Reader.{ok, refused, misfit, afterA, endA, admit, limits, count, enough, conditionalAt, definitionsAt, behindAt, adAt, parse}
+use Rattle.syntax.specs.Reader.{ok, misfit, afterA, endA, admit, limits, count, enough, conditionalAt, definitionsAt, behindAt, adAt, parse}
 use Rattle.syntax.specs.declared.Symbol.the-variants.{OpenBracket, CloseBracket, Semicolon, Assign}
 use Rattle.lexer.specs.Inner.Meaning.{tokensAt}
 use Rattle.lookahead.specs.Inner.Ask.{NotToken, NotWord, Misfit, Stands}

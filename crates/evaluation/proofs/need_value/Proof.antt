@@ -1,7 +1,6 @@
 use denote.Ref.{now}
 use Prim.Native.Nat.{ℕ, _<_, _≤_}
 use mathlib.Core.Path.{subst}
-use Rattle.graph.specs.Transition.{led}
 use Rattle.links.specs.Pair.{pairGraph}
 use Rattle.links.specs.Laws.Numbering.{stands-small}
 use Rattle.slots.specs.Packed.{slotAt}

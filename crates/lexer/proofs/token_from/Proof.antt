@@ -1,5 +1,6 @@
 use mathlib.Core.Path.{sym, _∙_}
-use Rattle.lexer.proofs.Laws.{scan-end, scan-name, scan-number, scan-string, scan-symbol, name-byte}
+use Rattle.syntax.specs.Laws.Marks.{starts-continues}
+use Rattle.lexer.proofs.Laws.{scan-end, scan-name, scan-number, scan-string, scan-symbol}
 use borrow.Author.Needs.{needs}
 use Rattle.lexer.proofs.token_from.Statement.{statement}
 use Rattle.lexer.proofs.token_from.Tie as tie
@@ -14,7 +15,7 @@ returns c = record {
 name-requires : tie.Need-name-requires
 name-requires c κs = record {
   inside = c .before .before .before .if1 .left;
-  byte = name-byte _ (sym (c .before .starts-name .ensures) ∙ c .if2 .taken);
+  byte = starts-continues _ (sym (c .before .starts-name .ensures) ∙ c .if2 .taken);
 }
 
 returns-2 : tie.Need-returns-2

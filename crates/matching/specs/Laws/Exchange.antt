@@ -7,10 +7,10 @@ use mathlib.Core.Bool.{Bool, true, false, cond, not, _&&_}
 use mathlib.Core.List.{List, [], _∷_, map}
 use lib.ListN.{length}
 use lib.Dec.{eqb, ltb}
+use borrow.Author.Tests.{le-ltb, lt-ltb}
 use Rattle.syntax.specs.Bounds.{maxNodes}
 use Rattle.ad.specs.Stored.{kindAt, operandAt, arity, unaryOf, binaryOf, isReference, operands, nameAt, find}
 use Rattle.graph.specs.Members.{_∈_, here, there, Each}
-use Rattle.graph.specs.Laws.Members.{ltb-yes, ltb-no}
 use Rattle.graph.specs.Graph.{Node, Flags, needs}
 use Rattle.links.specs.Pair.{numbered, linked, inside, across, linksFrom, refersAt, both, rootsOf, requirements, rank, pairGraph, Formed}
 use Rattle.links.specs.Laws.Counting.{nodes-few, found-root}
@@ -47,11 +47,11 @@ swap x = cond (ltb x maxNodes) (maxNodes + x) (x - maxNodes)
 
 swap-low : (x : ℕ) → x < maxNodes → swap x ≡ maxNodes + x
 unfolding swap
-swap-low x h = rw (ltb-yes h) refl
+swap-low x h = rw (lt-ltb _ _ h) refl
 
 swap-high : (x : ℕ) → maxNodes ≤ x → swap x ≡ x - maxNodes
 unfolding swap
-swap-high x h = rw (ltb-no h) refl
+swap-high x h = rw (le-ltb _ _ h) refl
 
 swap-numbered : (s : Bool) (y : ℕ) → y < maxNodes → swap (numbered s y) ≡ numbered (not s) y
 swap-numbered true y h = swap-high (maxNodes + y) (omega arith) ∙ (let e : (maxNodes + y) - maxNodes ≡ y = omega arith in e)

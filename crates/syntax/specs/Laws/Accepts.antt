@@ -4,10 +4,9 @@ use Prim.Native.Nat.{ℕ, zero, suc, _+_, _≤_, _<_}
 use native.Mathlib.Omega.{arith}
 use mathlib.Core.Path.{_≡_, refl, sym, _∙_, ap}
 use mathlib.Core.Logic.{_↔_}
-use mathlib.Core.Bool.{true, false, true≢false}
+use mathlib.Core.Bool.{false, true≢false}
 use mathlib.Core.List.{List, [], _∷_, _++_, append-assoc}
 use lib.ListN.{length, length-append}
-use lib.Dec.{leb}
 use borrow.Author.Tests.{lt-leb}
 use Rattle.syntax.specs.Tree.{Expr, Definition, Ad, size, nodes}
 use Rattle.syntax.specs.Token.{Token, word, symbol, Tokens, end, tokens}

@@ -8,7 +8,7 @@ use lib.ListN.{length, length-append}
 use lib.Dec.{leb}
 use borrow.Author.Tests.{leb-false}
 use Rattle.syntax.specs.Tree.{Expr, Definition, Ad, size, nodes}
-use Rattle.syntax.specs.Token.{Token, word, constant, operator, symbol, Tokens, next, end, bad, pick}
+use Rattle.syntax.specs.Token.{Token, word, constant, operator, symbol, Tokens, next, end, bad}
 use Rattle.syntax.specs.Grammar.{ReadsTo, DefinesTo, defines-one, defines-more, AdTo, ad-empty, ad-plain, ad-trailing, NewAfter, Follows}
 use Rattle.syntax.specs.Reader.{Parsed, ok, refused, Answer, accepted, denied, codeOf, isToken, misfit, onToken, onWord, Limits, conditionalAt, afterA, wantA, endA, count, enough, admit, definitionsAt, behindAt, adAt}
 use Rattle.syntax.specs.Laws.Codes.{on-pick, is-token, symbol-coded}

@@ -4,7 +4,7 @@ use mathlib.Core.Logic.{_⊎_, inl, inr}
 use mathlib.Core.List.{List, [], _∷_, _++_, map, append-assoc}
 use Prim.Native.Nat.{ℕ}
 use lib.ListN.{take, drop}
-use Rattle.graph.specs.Members.{_∈_, here, there, Each, put}
+use Rattle.graph.specs.Members.{_∈_, here, there, Each}
 use Rattle.graph.specs.Laws.Members.{mem-nil, mem-cons, mem-cast, mem-left, mem-right, mem-append, put-same, put-other}
 use Rattle.graph.specs.Graph.{Path⁺, Entered}
 use Rattle.valuation.specs.Gives.{Give, nil, cons, Gives}

@@ -1,8 +1,8 @@
 use mathlib.Core.Path.{sym, _∙_}
 use lib.Dec.{leb, eqb}
+use Rattle.text.specs.Laws.Booleans.{and-left}
 use Rattle.well_formed.proofs.Tests.{walk-if, walk-bad}
 use Rattle.well_formed.specs.Inner.Decode.{booleanFits}
-use Rattle.well_formed.specs.Laws.Shapes.{and-left}
 use borrow.Author.Tests.{leb-true}
 use native.Mathlib.Omega.{arith}
 use borrow.Author.Needs.{needs}
