@@ -93,7 +93,7 @@ fn read_arms(
             if 64 <= depth { // level 65 at its `?`
                 return Read::Refused(6, p);
             }
-            if 1024 <= n + begun {
+            if syntax::NODES <= n + begun {
                 return Read::Refused(9, p);
             }
             match read_conditional(text, q, depth + 1, n, k, begun + 1, words, bytes) {
@@ -166,7 +166,7 @@ fn read_rest(
     match lookahead::binary_at(text, at, level) {
         BinaryAt::Absent => Read::Done(at, n, k),
         BinaryAt::Here(j, p, q) => {
-            if 1024 <= n + begun {
+            if syntax::NODES <= n + begun {
                 return Read::Refused(9, p);
             }
             match read_binary(text, q, level + 1, depth, n, k, begun + 1, words, bytes) {
@@ -201,7 +201,7 @@ fn read_unary(
             if 64 <= depth { // level 65 at its operator
                 return Read::Refused(6, p);
             }
-            if 1024 <= n + begun {
+            if syntax::NODES <= n + begun {
                 return Read::Refused(9, p);
             }
             match read_unary(text, q, depth + 1, n, k, begun + 1, words, bytes) {

@@ -24,7 +24,7 @@ fn behind(p: Position, b: u8) -> Position
     requires { ⌜ (p .line < 2 ^ 64 - 1) × (p .column < 2 ^ 64 - 1) ⌝ }
     ensures { λ r. ⌜ (r .line ≡ lineAfter (p .line) b) × (r .column ≡ columnAfter (p .column) b) ⌝ }
 {
-    if b == 10 {
+    if b == b'\n' {
         return Position {
             line: p.line + 1,
             column: 0,
