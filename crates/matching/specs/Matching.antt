@@ -1,6 +1,6 @@
 -- The match of two stored ads: verdict, ranks, steps, and what is left in the table and in the list's room. v and b are the words and
 -- bytes of the first ad, w and c those of the second. Assumes nothing.
-use Prim.Native.Nat.{ℕ, zero, suc, _-_, _*_, _+_, _^_, _≤_, _<_}
+use Prim.Native.Nat.{ℕ, zero, suc, _-_, _*_, _^_, _≤_, _<_}
 use mathlib.Core.Path.{_≡_}
 use mathlib.Core.Bool.{Bool, true, false, cond, _&&_}
 use mathlib.Core.List.{List, [], _∷_, _++_, map}

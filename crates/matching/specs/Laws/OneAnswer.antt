@@ -24,7 +24,7 @@ pub record Same (table list : List ℕ) (r : Outcome) (table′ list′ : List �
   pub answers : r ≡ r′
 
 -- the transitions are counted exactly
-count-one : (G : Graph) (i j : ℕ) → Counted G i → Counted G j → i ≡ j
+pub count-one : (G : Graph) (i j : ℕ) → Counted G i → Counted G j → i ≡ j
 count-one G i j p q = go (decLt i j) (decLt j i)
   where
     go : Dec (i < j) → Dec (j < i) → i ≡ j
