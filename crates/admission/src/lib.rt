@@ -2,7 +2,6 @@
 use well_formed::Checked;
 ghost use mathlib.Core.Path.{_≡_};
 ghost use mathlib.Core.Bool.{true, false};
-ghost use lib.ListN.{length};
 ghost use Rattle.admission.specs.Admission.{Well, smallPair};
 
 // How many entries the list of a match has room for.
