@@ -3,7 +3,7 @@ use Prim.Native.Nat.{ℕ, _≤_, _<_}
 use native.Mathlib.Decide.{decLt}
 use native.Mathlib.Omega.{arith}
 use mathlib.Core.Path.{_≡_, refl, sym, ap, _∙_, subst}
-use mathlib.Core.Bool.{Bool, true, false, _||_}
+use mathlib.Core.Bool.{Bool, true, false, _||_, true≢false}
 use mathlib.Core.List.{List, _++_}
 use lib.ListN.{length, take, drop, length-append}
 use lib.Seq.{take-at}
@@ -21,7 +21,8 @@ use Rattle.reader.specs.declared.Answer.{Answer}
 use Rattle.reader.specs.declared.Answer.the-variants as reading
 use Rattle.reader.specs.Content.{answerOf, wordsOf, bytesOf, answer, wordsAfter, bytesAfter, Answered}
 use Rattle.matching.specs.Matching as M
-use Rattle.matching.specs.Matching.{Well, Matched, no-room, first-malformed, second-malformed, matches, tableWords, listWords}
+use Rattle.matching.specs.Matching.{Matched, no-room, first-malformed, second-malformed, matches, tableWords}
+use Rattle.admission.specs.Admission.{Well, listWords}
 use Rattle.matching.specs.declared.Outcome.{Outcome}
 use Rattle.matching.specs.declared.Outcome.the-variants.{Refused}
 
@@ -77,9 +78,6 @@ ready-matches {v} {b} {w} {c} {budget} {table} {list} {r = r} p q h l m k p′ e
     room : M.small v b w c table list ≡ false
     room = rw (le-ltb (length v) adWords (p .words), le-ltb (length b) adBytesRoom (p .bytes), le-ltb (length w) adWords (q .words), le-ltb (length c) adBytesRoom (q .bytes), le-ltb (length table) tableWords h) (le-ltb (length list) listWords l)
 
-    apart : true ≡ false → ⊥
-    apart y = let z : _≡_ {A = ℕ} 0 1 = cc in omega arith
-
     answered : {v b w c table list : List ℕ} → M.Match v b w c budget table list r → ⊥
     answered m = done (decLt budget (length (m .order)))
       where
@@ -92,7 +90,7 @@ ready-matches {v} {b} {w} {c} {budget} {table} {list} {r = r} p q h l m k p′ e
             omega arith
 
     go : {table′ list′ : List ℕ} → Matched v b w c budget table list table′ list′ r → ⊥
-    go (no-room x r t u) = apart (sym x ∙ room)
+    go (no-room x r t u) = true≢false (sym x ∙ room)
     go (first-malformed x n r t u) = n (p .well)
     go (second-malformed x y n r t u) = n (q .well)
     go (matches x y n values entries m t u) = answered m

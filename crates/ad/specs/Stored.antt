@@ -1,6 +1,6 @@
 -- A stored ad as it is read, total over any memory: its nodes, operands, definitions and names (docs/LAYOUT.md). w are the words
 -- and b the bytes of an ad. Assumes nothing.
-use mathlib.Core.Bool.{Bool, true, false, cond, _||_}
+use mathlib.Core.Bool.{Bool, false, cond, _||_}
 use mathlib.Core.List.{List, [], _∷_}
 use Prim.Native.Nat.{ℕ, zero, suc, _+_, _-_, _*_}
 use lib.ListN.{getD, take, drop}

@@ -6,9 +6,10 @@ ghost use mathlib.Core.List.{[], _∷_};
 ghost use Prim.Native.Nat.{_+_, _*_, _-_, _≤_, _<_};
 ghost use lib.ListN.{length, replicate};
 ghost use lib.Seq.{sets, slice};
+ghost use Rattle.syntax.specs.Bounds.{maxDefinitions, maxNodes};
 ghost use Rattle.text.specs.Strings.{sameName};
-ghost use Rattle.ad.specs.Layout.{node};
-ghost use Rattle.ad.specs.Stored.{kindAt, operandAt, offsetAt, lengthAt, rootAt, bytesAt, arity, isReference, unaryOf, binaryOf, definedIn};
+ghost use Rattle.ad.specs.Layout.{node, nodeWords, adWords};
+ghost use Rattle.ad.specs.Stored.{kindAt, operandAt, offsetAt, lengthAt, rootAt, bytesAt, nodeCount, definitionCount, nameAt, arity, isReference, unaryOf, binaryOf, definedIn};
 
 // The room of an ad: 1,024 nodes of four words, behind them 256 definitions of three, and 16,384 bytes.
 pub const NODE_WORDS: usize = 4096;
@@ -26,7 +27,7 @@ fn index(x: u64) -> usize
 
 // The kind of node i.
 pub fn kind(words: &[u64], i: usize) -> u64
-    requires { ⌜ (i < 1024) × (4864 ≤ length (now words)) ⌝ }
+    requires { ⌜ (i < maxNodes) × (adWords ≤ length (now words)) ⌝ }
     ensures { λ r. ⌜ r ≡ kindAt (now (words .entry)) i ⌝ }
 {
     words[4 * i]
@@ -97,7 +98,7 @@ pub fn is_reference(kind: u64) -> bool
 
 // Node i's operand or datum j.
 pub fn operand(words: &[u64], i: usize, j: usize) -> usize
-    requires { ⌜ (i < 1024) × (j < 3) × (4864 ≤ length (now words)) ⌝ }
+    requires { ⌜ (i < maxNodes) × (j < 3) × (adWords ≤ length (now words)) ⌝ }
     ensures { λ r. ⌜ r ≡ operandAt (now (words .entry)) i j ⌝ }
 {
     index(words[4 * i + 1 + j])
@@ -105,7 +106,7 @@ pub fn operand(words: &[u64], i: usize, j: usize) -> usize
 
 // The root of definition j.
 pub fn root(words: &[u64], j: usize) -> usize
-    requires { ⌜ (j < 256) × (4864 ≤ length (now words)) ⌝ }
+    requires { ⌜ (j < maxDefinitions) × (adWords ≤ length (now words)) ⌝ }
     ensures { λ r. ⌜ r ≡ rootAt (now (words .entry)) j ⌝ }
 {
     index(words[NODE_WORDS + 3 * j + 2])
@@ -113,7 +114,7 @@ pub fn root(words: &[u64], j: usize) -> usize
 
 // The offset of the name of definition j.
 pub fn offset(words: &[u64], j: usize) -> usize
-    requires { ⌜ (j < 256) × (4864 ≤ length (now words)) ⌝ }
+    requires { ⌜ (j < maxDefinitions) × (adWords ≤ length (now words)) ⌝ }
     ensures { λ r. ⌜ r ≡ offsetAt (now (words .entry)) j ⌝ }
 {
     index(words[NODE_WORDS + 3 * j])
@@ -121,10 +122,40 @@ pub fn offset(words: &[u64], j: usize) -> usize
 
 // The length of the name of definition j.
 pub fn name_length(words: &[u64], j: usize) -> usize
-    requires { ⌜ (j < 256) × (4864 ≤ length (now words)) ⌝ }
+    requires { ⌜ (j < maxDefinitions) × (adWords ≤ length (now words)) ⌝ }
     ensures { λ r. ⌜ r ≡ lengthAt (now (words .entry)) j ⌝ }
 {
     index(words[NODE_WORDS + 3 * j + 1])
+}
+
+// How many nodes are stored.
+pub fn count_nodes(words: &[u64]) -> usize
+    requires { ⌜ adWords ≤ length (now words) ⌝ }
+    ensures { λ r. ⌜ r ≡ nodeCount (now (words .entry)) ⌝ }
+{
+    let mut i: usize = 0;
+    while i < syntax::NODES {
+        if kind(words, i) == 0 {
+            return i;
+        }
+        i += 1;
+    }
+    i
+}
+
+// How many definitions are stored.
+pub fn count_definitions(words: &[u64]) -> usize
+    requires { ⌜ adWords ≤ length (now words) ⌝ }
+    ensures { λ r. ⌜ r ≡ definitionCount (now (words .entry)) ⌝ }
+{
+    let mut j: usize = 0;
+    while j < syntax::DEFINITIONS {
+        if name_length(words, j) == 0 {
+            return j;
+        }
+        j += 1;
+    }
+    j
 }
 
 // The bytes from a place on, cut to what the memory holds.
@@ -141,9 +172,19 @@ pub fn part(bytes: &[u8], at: usize, len: usize) -> &[u8]
     &bytes[at..]
 }
 
+// The name of the reference i.
+pub fn reference_name<'a>(words: &[u64], bytes: &'a [u8], i: usize) -> &'a [u8]
+    requires { ⌜ (i < maxNodes) × (adWords ≤ length (now words)) ⌝ }
+    ensures { λ r. ⌜ now r ≡ nameAt (now (words .entry)) (now (bytes .entry)) i ⌝ }
+{
+    let at = operand(words, i, 0);
+    let len = operand(words, i, 1);
+    part(bytes, at, len)
+}
+
 // Whether definition j has this name.
 pub fn has_name(words: &[u64], bytes: &[u8], j: usize, name: &[u8]) -> bool
-    requires { ⌜ (j < 256) × (4864 ≤ length (now words)) ⌝ }
+    requires { ⌜ (j < maxDefinitions) × (adWords ≤ length (now words)) ⌝ }
     ensures { λ r. ⌜ r ≡ sameName (bytesAt (now (bytes .entry)) (offsetAt (now (words .entry)) j) (lengthAt (now (words .entry)) j)) (now (name .entry)) ⌝ }
 {
     let at = offset(words, j);
@@ -153,7 +194,7 @@ pub fn has_name(words: &[u64], bytes: &[u8], j: usize, name: &[u8]) -> bool
 
 // Whether one of the first d stored definitions has a name.
 pub fn defined(words: &[u64], bytes: &[u8], d: usize, name: &[u8]) -> bool
-    requires { ⌜ (d ≤ 256) × (4864 ≤ length (now words)) ⌝ }
+    requires { ⌜ (d ≤ maxDefinitions) × (adWords ≤ length (now words)) ⌝ }
     ensures { λ r. ⌜ r ≡ definedIn (now (words .entry)) (now (bytes .entry)) (now (name .entry)) 0 d ⌝ }
 {
     let mut j = 0;
@@ -180,8 +221,8 @@ pub fn store_node(words: &mut [u64], n: usize, kind: u64, a: u64, b: u64, c: u64
 
 // Writes definition j.
 pub fn store_definition(words: &mut [u64], j: usize, at: u64, len: u64, root: u64)
-    requires { ⌜ 4096 + 3 * j + 3 ≤ length (now words) ⌝ }
-    ensures { λ _. ⌜ now (words .exit) ≡ sets (now (words .entry)) (4096 + 3 * j) (at ∷ len ∷ root ∷ []) ⌝ }
+    requires { ⌜ nodeWords + 3 * j + 3 ≤ length (now words) ⌝ }
+    ensures { λ _. ⌜ now (words .exit) ≡ sets (now (words .entry)) (nodeWords + 3 * j) (at ∷ len ∷ root ∷ []) ⌝ }
 {
     let first = NODE_WORDS + 3 * j;
     words[first] = at;

@@ -12,6 +12,6 @@ abbrev pub holderNumbers : List ℕ → Holder → List ℕ
 holderNumbers w (Definition j) = 1 ∷ j ∷ offsetAt w j ∷ lengthAt w j ∷ []
 holderNumbers w Nothing = 0 ∷ 0 ∷ 0 ∷ 0 ∷ []
 
--- the line and the column of a place: for 'A refusal carries its number and a place'
+-- the line and the column of a place
 abbrev pub positionNumbers : List ℕ → ℕ → List ℕ
 positionNumbers s place = lineOf s place ∷ columnOf s place ∷ []

@@ -7,8 +7,8 @@ use Rattle.reader.specs.declared.Answer.{Answer}
 use Rattle.reader.specs.declared.Answer.the-variants.{Accepted, Refused}
 use Rattle.reader.specs.Content.{Answered, answer}
 
--- 0, the definitions and the nodes; or the refusal's number, the byte's place and 0 (docs/LAYOUT.md: 'Layouts are the team's,
--- written in docs/'): 'accepted with its counts, or refused with number and byte place'
+-- 0, the definitions and the nodes; or the refusal's number, the byte's place and 0 (docs/LAYOUT.md): 'accepted with its counts, or
+-- refused with number and byte place'
 abbrev pub numbersOf : Answer → List ℕ
 numbersOf (Accepted d n) = 0 ∷ d ∷ n ∷ []
 numbersOf (Refused k p) = k ∷ p ∷ 0 ∷ []

@@ -7,9 +7,7 @@ use Rattle.syntax.specs.declared.Binary.{Binary}
 use Rattle.syntax.specs.declared.Unary.{Unary}
 use Rattle.ad.specs.Stored.{arity, unaryOf, binaryOf}
 use Rattle.c_operators.specs.Operators.{binaryNamed, unaryNamed}
-use Rattle.c_operators.specs.declared.Two.{Two}
 use Rattle.c_operators.specs.declared.Two.the-variants as two
-use Rattle.c_operators.specs.declared.One.{One}
 use Rattle.c_operators.specs.declared.One.the-variants as one
 
 -- n is how many operands the kind k has

@@ -22,7 +22,7 @@ binaryNamed k = cond (eqb (arity k) 2) (two.Operator (binaryOf k)) two.Nothing
 abbrev pub unaryNamed : ℕ → One
 unaryNamed k = cond (eqb (arity k) 1) (one.Operator (unaryOf k)) one.Nothing
 
--- blank where the operand is blank: for 'Each slot of the table is blank or holds a value.'
+-- blank where the operand is blank
 abbrev pub withHeld : Slot → (Value → Slot) → Slot
 withHeld Blank f = Blank
 withHeld (Held v) f = f v

@@ -1,15 +1,14 @@
 -- The loop of the traversal: what holds before each transition, and what is then asked and had. Assumes nothing.
 use mathlib.Core.Path.{_≡_, refl, sym, ap, _∙_, subst, fun-ext}
 use mathlib.Core.Logic.{_≢_, _⊎_, inl, inr}
-use mathlib.Core.Bool.{Bool, true, false, cond}
+use mathlib.Core.Bool.{Bool, true, false, cond, false≢true}
 use mathlib.Core.List.{List, [], _∷_, _++_, map}
 use Prim.Native.Nat.{ℕ, zero, suc, _+_, _-_, _*_, _≤_, _<_}
 use native.Mathlib.Omega.{arith}
 use lib.ListN.{length, getD, set, take, drop, replicate, length-drop, length-map, length-replicate, take-append-drop}
 use lib.Seq.{length-take-le, getD-drop, ext-getD}
 use lib.Dec.{eqb, ltb, leb}
-use borrow.Author.Tests.{leb-true, leb-false}
-use Rattle.graph.specs.Laws.Members.{ltb-yes}
+use borrow.Author.Tests.{leb-true, leb-false, lt-ltb}
 use Rattle.graph.specs.Graph.{Graph, Sound}
 use Rattle.graph.specs.Transition.{State, searches, led, named, marked, searchedTo, resolvedTo, transition, transitions, first}
 use Rattle.graph.specs.Laws.Traversal.{Ends, traverse, within-square}
@@ -34,10 +33,7 @@ recorded-is :
     ≡ marked l
 unfolding named
 recorded-is H zero l h e = ap marked e
-recorded-is H (suc y) l h e = ap marked (rw (ltb-yes (h y refl)) at e)
-
-never : false ≡ true → ⊥
-never e = let z : _≡_ {A = ℕ} 0 1 = cc in omega arith
+recorded-is H (suc y) l h e = ap marked (rw (lt-ltb _ _ (h y refl)) at e)
 
 set-bit : (l : List ℕ) (i j : ℕ) → getD l j 0 ≤ 1 → getD (set l i 1) j 0 ≤ 1
 set-bit [] i j k = k
@@ -165,15 +161,15 @@ module _ (G : Graph) (S : Sound G) where
           }
 
       ended-place : (u : Place) → InRange G u → endedAt u n ≡ true → u ≡ Between (searches G)
-      ended-place (Resolving i) o h = absurd (never h)
-      ended-place (Starting k) o h = absurd (never h)
-      ended-place (Searching k x top high low) o h = absurd (never h)
-      ended-place (Closing k x top high) o h = absurd (never h)
+      ended-place (Resolving i) o h = absurd (false≢true h)
+      ended-place (Starting k) o h = absurd (false≢true h)
+      ended-place (Searching k x top high low) o h = absurd (false≢true h)
+      ended-place (Closing k x top high) o h = absurd (false≢true h)
       ended-place (Between k) o h =
           let a : n ≤ k = leb-true _ _ h in
           let z : k ≤ searches G = o in
           ap Between (let x : k ≡ searches G = omega arith in x)
-      ended-place (Inside k x) o h = absurd (never h)
+      ended-place (Inside k x) o h = absurd (false≢true h)
 
       written-is : (l : List ℕ) → take len ls ≡ map suc l → ls ≡ map suc l ++ replicate (length ls - length l) 0
       written-is l e =

@@ -1,13 +1,12 @@
 -- The loop of the run: what holds before each step, and what is then asked and had. Assumes nothing.
-use Prim.Native.Nat.{ℕ, zero, suc, _+_, _-_, _*_, _≤_, _<_}
+use Prim.Native.Nat.{ℕ, _+_, _-_, _≤_, _<_}
 use native.Mathlib.Omega.{arith}
-use mathlib.Core.Path.{_≡_, refl, sym, ap, _∙_, subst}
-use mathlib.Core.List.{List, map}
-use lib.ListN.{length, getD, take, length-map, length-take, List·getD-map}
+use mathlib.Core.Path.{_≡_, sym, ap, _∙_, subst}
+use mathlib.Core.List.{List}
+use lib.ListN.{length, getD, take, length-map, List·getD-map}
 use lib.Seq.{length-take-le, getD-take}
 use Rattle.links.specs.Pair.{pairGraph, Stands}
 use Rattle.links.specs.Laws.Numbering.{stands-small}
-use Rattle.values.specs.declared.Value.{Value}
 use Rattle.evaluation.specs.Evaluation.{ruleAt, needed, entries, Stepped, RunTo, AtStep, AtRun}
 use Rattle.evaluation.specs.Laws.Words.{Run, run-first, run-next, run-spent, run-over, run-long}
 

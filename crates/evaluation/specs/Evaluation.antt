@@ -9,7 +9,7 @@ use Rattle.ad.specs.Stored.{kindAt, operandAt}
 use Rattle.graph.specs.Members.{numbers, raised}
 use Rattle.graph.specs.Graph.{Graph}
 use Rattle.graph.specs.Transition.{led}
-use Rattle.links.specs.Pair.{both, pairGraph, Formed, Stands}
+use Rattle.links.specs.Pair.{both, Formed, Stands}
 use Rattle.values.specs.declared.Value.{Value}
 use Rattle.values.specs.declared.Value.the-variants.{Undefined}
 use Rattle.slots.specs.declared.Slot.{Slot}

@@ -1,19 +1,18 @@
 // Evaluation: the step, which works out one node's value, and the run over the list.
 // v and b are the words and bytes of the first ad, w and c those of the second.
 ghost use mathlib.Core.Path.{_≡_};
-ghost use mathlib.Core.Bool.{Bool};
 ghost use mathlib.Core.List.{List, map};
 ghost use Prim.Native.Nat.{ℕ, _+_, _-_, _≤_, _<_};
 ghost use lib.ListN.{length, getD};
-ghost use Rattle.links.specs.Pair.{pairGraph, Formed, Stands};
+ghost use Rattle.syntax.specs.Bounds.{maxNodes};
+ghost use Rattle.ad.specs.Layout.{adWords};
+ghost use Rattle.links.specs.Pair.{pairGraph};
 ghost use Rattle.slots.specs.Packed.{slotAt};
 ghost use Rattle.nodes.specs.Nodes.{valueIn};
 ghost use Rattle.evaluation.specs.Evaluation.{nodeFrom, nodeAt, ruleAt, seen, needed, entries, Stepped, RunTo, AtStep, AtRun};
 use nodes::Node;
 use slots::Slot;
 use values::Value;
-
-const NODES: usize = 1024;
 
 // The value in a slot; a blank one reads as Undefined.
 pub fn value_in(table: &[u64], y: usize) -> Value
@@ -28,7 +27,7 @@ pub fn value_in(table: &[u64], y: usize) -> Value
 
 // Node i of an ad, `second` or the first.
 fn node_from(second: bool, words: &[u64], i: usize) -> Node
-    requires { ⌜ (i < 1024) × (4864 ≤ length (now words)) ⌝ }
+    requires { ⌜ (i < maxNodes) × (adWords ≤ length (now words)) ⌝ }
     ensures { λ r. ⌜ r ≡ nodeFrom second (now (words .entry)) i ⌝ }
 {
     let kind = ad::kind(words, i);
@@ -39,13 +38,13 @@ fn node_from(second: bool, words: &[u64], i: usize) -> Node
 
 // The node x.
 fn node_at(v: &[u64], w: &[u64], x: usize) -> Node
-    requires { ⌜ (x < 2048) × (4864 ≤ length (now v)) × (4864 ≤ length (now w)) ⌝ }
+    requires { ⌜ (x < 2048) × (adWords ≤ length (now v)) × (adWords ≤ length (now w)) ⌝ }
     ensures { λ r. ⌜ r ≡ nodeAt (now (v .entry)) (now (w .entry)) x ⌝ }
 {
-    if x < NODES {
+    if x < syntax::NODES {
         return node_from(false, v, x);
     }
-    node_from(true, w, x - NODES)
+    node_from(true, w, x - syntax::NODES)
 }
 
 // The value that the table holds for need i of the node x, by its marks.

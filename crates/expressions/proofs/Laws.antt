@@ -1,28 +1,26 @@
 -- What each way through a reader gives, from what its calls give. Assumes nothing.
 use Prim.Native.Nat.{ℕ, zero, suc, _+_, _-_, _*_, _≤_, _<_}
 use native.Mathlib.Omega.{arith}
-use mathlib.Core.Path.{_≡_, refl, sym, _∙_, ap}
+use mathlib.Core.Path.{_≡_, refl, _∙_, ap}
 use mathlib.Core.List.{List}
-use lib.ListN.{length}
 use lib.Seq.{sets}
 use borrow.Author.Tests.{eq-eqb, ne-eqb, lt-ltb, le-ltb, le-leb, lt-leb}
 use Rattle.syntax.specs.Tree.{Expr, unary, binary, conditional, size}
 use Rattle.syntax.specs.Token as T
 use Rattle.syntax.specs.Token.{Tokens, next, end, bad}
 use Rattle.syntax.specs.Grammar.{bindsOf, unaryToken}
-use Rattle.syntax.specs.Reader.{Parsed, ok, refused, codeOf, isToken, misfit, onToken, onBinary, onUnary, after, want, level, room, limits, count, conditionalAt, armsAt, binaryAt, restAt, unaryAt, primaryAt}
+use Rattle.syntax.specs.Reader.{Parsed, ok, refused, onBinary, onUnary, after, want, level, room, limits, conditionalAt, armsAt, unaryAt, primaryAt}
 use Rattle.syntax.specs.declared.Binary.{Binary}
 use Rattle.syntax.specs.declared.Unary.{Unary}
 use Rattle.syntax.specs.declared.Unary.the-variants.{Not, Plus, Minus}
-use Rattle.syntax.specs.declared.Symbol.{Symbol}
 use Rattle.syntax.specs.declared.Symbol.the-variants.{Question, Colon, CloseParenthesis}
 use Rattle.lexer.specs.Inner.Meaning.{tokensAt}
 use Rattle.lookahead.specs.Inner.Ask.{NotToken, NotBinary, Misfit, Stands}
 use Rattle.ad.specs.Layout.{unaryKind, binaryKind, node}
-use Rattle.leaves.specs.Inner.Marks.{Mark, mark, past, Memory, memory, written, left, Inside, LeafOk}
+use Rattle.leaves.specs.Inner.Marks.{Mark, Memory, written, left, LeafOk}
 use Rattle.leaves.specs.declared.Leaf.the-variants as L
 use Rattle.leaves.proofs.Laws.{fewer-left, misfit-of, token-off}
-use Rattle.expressions.specs.Inner.Post.{Agrees, Within, ConditionalOk, BinaryOk, UnaryOk, PrimaryOk, ArmsOk, RestOk}
+use Rattle.expressions.specs.Inner.Post.{Within, ConditionalOk, BinaryOk, UnaryOk, PrimaryOk, ArmsOk, RestOk}
 use Rattle.expressions.specs.declared.Read.{Read}
 use Rattle.expressions.specs.declared.Read.the-variants.{Done, Refused}
 use Rattle.expressions.proofs.Words.{more, restored, nodes-of, words-binary, past-binary, words-conditional, past-conditional, words-unary, past-unary}
@@ -61,9 +59,6 @@ want-off x u go k p (n, f) = token-off x u _ _ n ∙ misfit-of refused k p u f
 -- how many nodes were counted, with one operator more begun
 more-begun : (n o : ℕ) → n + o + 1 ≡ n + (o + 1)
 more-begun n o = omega arith
-
-behind : (n m o z : ℕ) → m ≡ n + z → n + o + 1 + z ≡ m + (o + 1)
-behind n m o z h = omega arith
 
 module _ (s : List ℕ) (at d : ℕ) (m : Mark) (o : ℕ) (w : Memory) where
   pub conditional-refused : (w₁ w₂ : Memory) (k p : ℕ) → BinaryOk s at 1 d m o w w₁ (Refused k p) → ConditionalOk s at d m o w w₂ (Refused k p)

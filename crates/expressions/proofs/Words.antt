@@ -1,34 +1,18 @@
 -- The memory of an expression, stored one operand after the other. Assumes nothing.
-use Prim.Native.Nat.{ℕ, suc, _+_, _-_, _*_, _≤_, _<_}
+use Prim.Native.Nat.{ℕ, _+_, _-_, _*_}
 use native.Mathlib.Omega.{arith}
 use mathlib.Core.Path.{_≡_, refl, sym, _∙_, ap}
-use mathlib.Core.List.{List, [], _∷_, _++_}
+use mathlib.Core.List.{List, _++_}
 use lib.ListN.{length, length-append}
 use lib.Seq.{sets}
+use Rattle.leaves.proofs.Laws.{stores, marks}
+use Rattle.ad.specs.Laws.Content.{length-nodes}
 use Rattle.text.specs.Parts.{sets-append}
-use Rattle.syntax.specs.Tree.{Literal, undefined, error, boolean, integer, real, string, Expr, literal, reference, unary, binary, conditional, size}
+use Rattle.syntax.specs.Tree.{Expr, unary, binary, conditional, size}
 use Rattle.syntax.specs.declared.Binary.{Binary}
 use Rattle.syntax.specs.declared.Unary.{Unary}
-use Rattle.ad.specs.Layout.{unaryKind, binaryKind, node, literalNode, literalBytes, exprNodes, exprBytes}
+use Rattle.ad.specs.Layout.{unaryKind, binaryKind, node, exprNodes, exprBytes}
 use Rattle.leaves.specs.Inner.Marks.{Mark, mark, past, Memory, memory, written}
-
-length-literal : (o : ℕ) (l : Literal) → length (literalNode o l) ≡ 4
-unfolding literalNode
-length-literal o undefined = refl
-length-literal o error = refl
-length-literal o (boolean b) = refl
-length-literal o (integer n) = refl
-length-literal o (real n k) = refl
-length-literal o (string l) = refl
-
--- four words a node
-pub length-nodes : (n o : ℕ) (e : Expr) → length (exprNodes n o e) ≡ 4 * size e
-unfolding exprNodes size
-length-nodes n o (literal l) = length-literal o l
-length-nodes n o (reference s w) = refl
-length-nodes n o (unary u a) = simp length-append (omega (arith, length-nodes n o a))
-length-nodes n o (binary j a b) = simp length-append (omega (arith, length-nodes n o a, length-nodes (n + size a) (o + length (exprBytes a)) b))
-length-nodes n o (conditional a b c) = simp length-append (omega (arith, length-nodes n o a, length-nodes (n + size a) (o + length (exprBytes a)) b, length-nodes (n + size a + size b) (o + length (exprBytes a) + length (exprBytes b)) c))
 
 sets-nodes :
     (w : List ℕ) (n o : ℕ) (e : Expr) (ys : List ℕ) → sets w (4 * n) (exprNodes n o e ++ ys) ≡ sets
@@ -37,12 +21,6 @@ sets-nodes w n o e ys =
     sets-append (exprNodes n o e) ys w (4 * n)
     ∙ ap (λ (k : ℕ). sets (sets w (4 * n) (exprNodes n o e)) k ys)
     (omega (arith, length-nodes n o e))
-
-pub stores : {w w′ b b′ : List ℕ} → w ≡ w′ → b ≡ b′ → memory w b ≡ memory w′ b′
-stores p q = λ i. record { words = p i; bytes = q i }
-
-pub marks : {n n′ k k′ : ℕ} → n ≡ n′ → k ≡ k′ → mark n k ≡ mark n′ k′
-marks p q = λ i. record { nodes = p i; bytes = q i }
 
 -- a node more
 abbrev pub more : Mark → Mark

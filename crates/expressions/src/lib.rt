@@ -8,7 +8,6 @@ use syntax::Symbol;
 use syntax::Unary;
 ghost use mathlib.Core.Path.{_≡_};
 ghost use Prim.Native.Nat.{_+_, _≤_, _<_};
-ghost use lib.ListN.{length};
 ghost use Rattle.ad.specs.Layout.{unaryKind, binaryKind};
 ghost use Rattle.leaves.specs.Inner.Marks.{mark, memory, Room};
 ghost use Rattle.expressions.specs.Inner.Post.{Within, ConditionalOk, BinaryOk, UnaryOk, PrimaryOk, ArmsOk, RestOk};
@@ -94,7 +93,7 @@ fn read_arms(
             if 64 <= depth { // level 65 at its `?`
                 return Read::Refused(6, p);
             }
-            if 1024 <= n + begun {
+            if syntax::NODES <= n + begun {
                 return Read::Refused(9, p);
             }
             match read_conditional(text, q, depth + 1, n, k, begun + 1, words, bytes) {
@@ -167,7 +166,7 @@ fn read_rest(
     match lookahead::binary_at(text, at, level) {
         BinaryAt::Absent => Read::Done(at, n, k),
         BinaryAt::Here(j, p, q) => {
-            if 1024 <= n + begun {
+            if syntax::NODES <= n + begun {
                 return Read::Refused(9, p);
             }
             match read_binary(text, q, level + 1, depth, n, k, begun + 1, words, bytes) {
@@ -202,7 +201,7 @@ fn read_unary(
             if 64 <= depth { // level 65 at its operator
                 return Read::Refused(6, p);
             }
-            if 1024 <= n + begun {
+            if syntax::NODES <= n + begun {
                 return Read::Refused(9, p);
             }
             match read_unary(text, q, depth + 1, n, k, begun + 1, words, bytes) {

@@ -1,6 +1,7 @@
 // What a stored ad shows of one of its nodes: the definition that it belongs to, and its expression's text.
 ghost use mathlib.Core.Path.{_≡_};
 ghost use lib.ListN.{length};
+ghost use Rattle.ad.specs.Layout.{adWords, adBytesRoom};
 ghost use Rattle.printer.specs.Prints.{PrintsText};
 ghost use Rattle.inspection.specs.Inspection.{nodeText, holder, holderName};
 use printer::Printed;
@@ -20,7 +21,7 @@ pub fn definition_of(words: &[u64], node: usize) -> Holder
         return Holder::Nothing;
     }
     let mut j = 0;
-    while j < 256 {
+    while j < syntax::DEFINITIONS {
         if ad::name_length(words, j) == 0 {
             return Holder::Nothing;
         }
@@ -44,7 +45,7 @@ pub fn definition_name<'a>(words: &[u64], bytes: &'a [u8], node: usize) -> &'a [
 
 // Prints the expression of a node over exactly the room of an ad.
 fn expression_room(words: &[u64], bytes: &[u8], node: usize, out: &mut [u8]) -> Printed
-    requires { ⌜ (length (now words) ≡ 4864) × (length (now bytes) ≡ 16384) ⌝ }
+    requires { ⌜ (length (now words) ≡ adWords) × (length (now bytes) ≡ adBytesRoom) ⌝ }
     ensures { λ r. ⌜ PrintsText (λ a. nodeText a node) (now (words .entry)) (now (bytes .entry)) (now (out .entry)) (now (out .exit)) r ⌝ }
 {
     let Checked::WellFormed(_, n, _) = well_formed::check(words, bytes) else {

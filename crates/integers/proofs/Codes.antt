@@ -1,17 +1,17 @@
 -- Each operation of `specs/Integers.antt` on codes, over the width: what the machine's unsigned operations give is the code that the definition names.
 -- Assumes nothing.
-use mathlib.Core.Path.{_≡_, refl, sym, ap, ap₂, _∙_, subst⁻¹}
+use mathlib.Core.Path.{_≡_, refl, sym, ap, _∙_, subst⁻¹}
 use mathlib.Core.Bool.{Bool, true, false, cond}
 use mathlib.Core.Logic.{_⊎_, inl, inr, ⊎-elim}
-use Prim.Native.Nat.{ℕ, zero, suc, _+_, _-_, _*_, _/_, _%_, _^_, _≤_, _<_}
+use Prim.Native.Nat.{ℕ, suc, _+_, _-_, _*_, _/_, _%_, _^_, _≤_, _<_}
 use native.Mathlib.Nat.{div-zero, mod-zero, mod-eq-of-lt, mod-eq-sub-mod, lt-of-le-of-lt, le-of-lt, mul-le-mul-left, mul-lt-mul-of-pos-right}
 use native.Mathlib.Omega.{arith}
 use lib.Dec.{ltb}
 use borrow.Author.Tests.{lt-ltb, le-ltb, ltb-true, ltb-false}
-use lib.IntN.{ℤ, pos, negsuc, negℤ, natAbs, _+ℤ_, _-ℤ_, _*ℤ_, -ℤ-+ℤ-cancel, +ℤ-idl, +ℤ-invl}
-use lib.Signed.{quotZ, remZ, ltZ}
+use lib.IntN.{ℤ, pos, negsuc, negℤ, natAbs, _-ℤ_, -ℤ-+ℤ-cancel, +ℤ-idl, +ℤ-invl}
+use lib.Signed.{quotZ, remZ}
 use lib.Pow.{pow-pos, pow-add}
-use Rattle.integers.specs.Integers.{wrap, signed, wrappedSum, wrappedDifference, wrappedProduct, wrappedNegation, truncatedQuotient, signedRemainder, lessThan}
+use Rattle.integers.specs.Integers.{wrap, signed, wrappedSum, wrappedDifference, wrappedProduct, wrappedNegation, truncatedQuotient, signedRemainder}
 use Rattle.integers.proofs.Ring.{wrap-lt, wrap-sum, wrap-product, wrap-signed}
 
 lt-or-ge : (a b : ℕ) → (a < b) ⊎ (b ≤ a)

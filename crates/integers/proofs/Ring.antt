@@ -1,14 +1,13 @@
 -- `wrap w` takes sums to sums and products to products, modulo 2 ^ w, over the width. M is 2 ^ w and k is M - 1, which stands for -1.
 -- Assumes nothing.
-use mathlib.Core.Path.{_≡_, refl, sym, ap, _∙_, subst}
+use mathlib.Core.Path.{_≡_, refl, sym, ap, _∙_}
 use mathlib.Core.Bool.{Bool, true, false, cond}
-use mathlib.Core.Logic.{⊎-elim}
-use Prim.Native.Nat.{ℕ, zero, suc, _+_, _-_, _*_, _/_, _%_, _^_, _≤_, _<_, zero-le}
-use native.Mathlib.Nat.{mul-add, add-mul, mul-suc, suc-mul, mul-comm, mul-assoc, mul-left-comm, mul-one, one-mul, add-comm, add-assoc, mul-zero, add-mod, mod-mod, mod-lt, mod-eq-of-lt, mod-add-div, add-mul-mod-self-left, mul-mul-mul-comm, mod-eq-sub-mod}
+use Prim.Native.Nat.{ℕ, zero, suc, _+_, _-_, _*_, _/_, _%_, _^_, _≤_, _<_}
+use native.Mathlib.Nat.{mul-add, add-mul, mul-suc, suc-mul, mul-assoc, mul-left-comm, one-mul, add-comm, add-assoc, mul-zero, add-mod, mod-lt, mod-eq-of-lt, mod-add-div, add-mul-mod-self-left, mul-mul-mul-comm}
 use native.Mathlib.Omega.{arith}
 use lib.Dec.{ltb}
-use borrow.Author.Tests.{lt-ltb, le-ltb, ltb-true, ltb-false}
-use lib.IntN.{ℤ, pos, negsuc, negℤ, _+ℤ_, _-ℤ_, _*ℤ_, subℕ, -ℤ-+ℤ-cancel}
+use borrow.Author.Tests.{ltb-true, ltb-false}
+use lib.IntN.{ℤ, pos, negsuc, negℤ, _+ℤ_, _*ℤ_}
 use lib.Pow.{pow-pos, pow-mono}
 use Rattle.integers.specs.Integers.{wrap, signed}
 

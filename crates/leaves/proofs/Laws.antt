@@ -1,5 +1,5 @@
 -- Literals and references stored, over plain variables. Assumes nothing.
-use Prim.Native.Nat.{ℕ, zero, suc, _+_, _-_, _*_, _≤_, _<_}
+use Prim.Native.Nat.{ℕ, suc, _+_, _-_, _*_, _≤_, _<_}
 use native.Mathlib.Omega.{arith}
 use native.Mathlib.Nat.{add-zero}
 use native.Mathlib.Numerals.{add-one}
@@ -8,29 +8,24 @@ use mathlib.Core.List.{List, [], _∷_}
 use lib.ListN.{length, set, drop}
 use lib.Seq.{sets, slice, length-slice}
 use borrow.Author.Tests.{le-leb, lt-leb, ne-eqb}
-use Rattle.syntax.specs.Tree.{Literal, undefined, error, boolean, integer, real, string, own, other, Expr, literal, reference, size}
+use Rattle.syntax.specs.Tree.{string, own, other, literal, reference, size}
 use Rattle.syntax.specs.Token as T
 use Rattle.syntax.specs.Token.{Tokens, next, end, bad, Body, closed, broken, grown, bodyOf}
-use Rattle.syntax.specs.Reader.{Parsed, ok, refused, codeOf, after, want, onWord, onToken, misfit, level, limits, count, conditionalAt, primaryAt}
+use Rattle.syntax.specs.Reader.{refused, codeOf, onWord, onToken, misfit, count, conditionalAt}
 use Rattle.syntax.specs.Laws.Codes.{code-same, symbol-coded, operator-low}
 use Rattle.syntax.specs.declared.Binary.{Binary}
 use Rattle.syntax.specs.declared.Symbol.{Symbol}
-use Rattle.syntax.specs.declared.Symbol.the-variants.{OpenParenthesis, CloseParenthesis, Point, Other}
-use Rattle.lexer.specs.Inner.Meaning.{tokensAt, literalOf, bytesOf, stringAt, Scanned}
+use Rattle.syntax.specs.declared.Symbol.the-variants.{OpenParenthesis, Point, Other}
+use Rattle.lexer.specs.Inner.Meaning.{tokensAt, literalOf, bytesOf, stringAt}
 use Rattle.lexer.specs.declared.Constant.{Constant}
 use Rattle.lexer.specs.declared.Constant.the-variants as C
 use Rattle.lookahead.specs.Inner.Ask.{Stands, NotToken, NotWord, Misfit}
 use Rattle.ad.specs.Layout.{node, literalNode, literalBytes, scopeKind, exprNodes, exprBytes}
-use Rattle.leaves.specs.Inner.Marks.{Mark, mark, past, Memory, memory, written, left, Inside, StringFrom, ConstantLeaf, TextLeaf, otherAt, OtherLeaf, LeafOk, LeafWithin}
+use Rattle.leaves.specs.Inner.Marks.{Mark, mark, Memory, memory, left, Inside, StringFrom, ConstantLeaf, TextLeaf, OtherLeaf, LeafOk, LeafWithin}
 use Rattle.leaves.specs.declared.Leaf.{Leaf}
 use Rattle.leaves.specs.declared.Leaf.the-variants.{Done, Refused, Open}
 
 -- ---- a string, byte by byte
-
--- what a string is, where its first byte is b
-abbrev Head : ℕ → ℕ → Body → Type 0
-Head b n (closed xs k) = (ys : List ℕ) × (xs ≡ b ∷ ys) × (suc (length ys) ≡ n)
-Head b n broken = ⊥
 
 module _ (s : List ℕ) (i n : ℕ) (f : StringFrom s i n) where
   pub step-next : (b q : ℕ) → q ≤ length s → bodyOf (drop i s) ≡ grown b (q - i) (bodyOf (drop q s)) → StringFrom s q (n - 1) × (bytesOf (bodyOf (drop i s)) ≡ b ∷ bytesOf (bodyOf (drop q s)))
@@ -77,7 +72,7 @@ shorter s i n m e f = subst (StringFrom s i) e f
 pub stores : {w w′ b b′ : List ℕ} → w ≡ w′ → b ≡ b′ → memory w b ≡ memory w′ b′
 stores p q = λ i. record { words = p i; bytes = q i }
 
-marks : {n n′ k k′ : ℕ} → n ≡ n′ → k ≡ k′ → mark n k ≡ mark n′ k′
+pub marks : {n n′ k k′ : ℕ} → n ≡ n′ → k ≡ k′ → mark n k ≡ mark n′ k′
 marks p q = λ i. record { nodes = p i; bytes = q i }
 
 pub text-stored : (kind n k l : ℕ) (xs w b u z : List ℕ) → length xs ≡ l → u ≡ sets w (4 * n) (node kind k l 0) → z ≡ sets b k xs → memory u z ≡ memory (sets w (4 * n) (node kind k (length xs) 0)) (sets b k xs)

@@ -9,9 +9,10 @@ ghost use mathlib.Core.Path.{_≡_};
 ghost use Prim.Native.Nat.{_+_, _*_, _-_, _≤_, _<_};
 ghost use lib.ListN.{length, drop};
 ghost use lib.Seq.{sets, slice};
+ghost use Rattle.syntax.specs.Bounds.{maxNodes};
 ghost use Rattle.syntax.specs.Token.{bodyOf};
 ghost use Rattle.lexer.specs.Inner.Meaning.{literalOf, bytesOf};
-ghost use Rattle.ad.specs.Layout.{node, literalNode};
+ghost use Rattle.ad.specs.Layout.{literalNode, nodeWords};
 ghost use Rattle.leaves.specs.Inner.Marks.{mark, memory, Room, StringFrom, StringRoom, NameRoom, ConstantLeaf, TextLeaf, OtherLeaf, LeafOk, LeafWithin};
 
 // What stands at a place where an operand can begin.
@@ -87,10 +88,10 @@ fn constant_leaf(
     begun: usize,
     words: &mut [u64],
 ) -> Leaf
-    requires { ⌜ (n + begun ≤ 1024) × (4096 ≤ length (now words)) ⌝ }
+    requires { ⌜ (n + begun ≤ maxNodes) × (nodeWords ≤ length (now words)) ⌝ }
     ensures { λ r. ⌜ ConstantLeaf p q c n k begun (now (words .entry)) (now (words .exit)) r ⌝ }
 {
-    if 1024 <= n + begun {
+    if syntax::NODES <= n + begun {
         return Leaf::Refused(9, p);
     }
     store_constant(words, n, c);
@@ -112,7 +113,7 @@ fn string_leaf(
     requires { ⌜ StringRoom (now text) p q len (mark n k) begun (memory (now words) (now bytes)) ⌝ }
     ensures { λ r. ⌜ TextLeaf 6 (bytesOf (bodyOf (drop (p + 1) (now (text .entry))))) p q (mark n k) begun (memory (now (words .entry)) (now (bytes .entry))) (memory (now (words .exit)) (now (bytes .exit))) r ⌝ }
 {
-    if 1024 <= n + begun {
+    if syntax::NODES <= n + begun {
         return Leaf::Refused(9, p);
     }
     ad::store_node(words, n, 6, k as u64, len as u64, 0);
@@ -136,7 +137,7 @@ fn name_leaf(
     requires { ⌜ NameRoom (now text) p q (mark n k) begun (memory (now words) (now bytes)) ⌝ }
     ensures { λ r. ⌜ TextLeaf kind (slice p q (now (text .entry))) at q (mark n k) begun (memory (now (words .entry)) (now (bytes .entry))) (memory (now (words .exit)) (now (bytes .exit))) r ⌝ }
 {
-    if 1024 <= n + begun {
+    if syntax::NODES <= n + begun {
         return Leaf::Refused(9, at);
     }
     ad::store_node(words, n, kind, k as u64, (q - p) as u64, 0);
@@ -159,7 +160,7 @@ fn other_leaf(
     ensures within { λ r. ⌜ LeafWithin (now (text .entry)) at (mark n k) begun (memory (now (words .entry)) (now (bytes .entry))) (memory (now (words .exit)) (now (bytes .exit))) r ⌝ }
     ensures exact { λ r. ⌜ OtherLeaf (now (text .entry)) p at (mark n k) begun (memory (now (words .entry)) (now (bytes .entry))) (memory (now (words .exit)) (now (bytes .exit))) r ⌝ }
 {
-    if 1024 <= n + begun {
+    if syntax::NODES <= n + begun {
         return Leaf::Refused(9, p);
     }
     match lookahead::symbol_at(text, at, Symbol::Point) {

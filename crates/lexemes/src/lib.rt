@@ -3,10 +3,11 @@ ghost use mathlib.Core.Path.{_≡_};
 ghost use mathlib.Core.Bool.{_&&_, _||_};
 ghost use Prim.Native.Nat.{_+_, _*_, _/_, _≤_};
 ghost use lib.ListN.{length};
+ghost use Rattle.syntax.specs.Bounds.{stringBytes};
 ghost use Rattle.text.specs.Bytes.{continuesName};
 ghost use Rattle.syntax.specs.Tree.{real, string};
 ghost use Rattle.syntax.specs.Token.{reserved};
-ghost use Rattle.syntax.specs.Print.{decimal, escaped, escapedAll, literalText};
+ghost use Rattle.syntax.specs.Print.{decimal, escaped, literalText};
 ghost use Rattle.lexemes.specs.Inner.Lexeme.{every, isOneOf, isName, inString, isString, isReal};
 
 pub fn both(a: bool, b: bool) -> bool
@@ -63,7 +64,7 @@ pub fn is_name(name: &[u8]) -> bool
         return false;
     }
     let starts = both(text::starts_name(name[0]), go_on(name));
-    let short = name.len() <= 64;
+    let short = name.len() <= syntax::NAME_BYTES;
     both(starts, both(short, !is_reserved(name)))
 }
 
@@ -71,7 +72,7 @@ pub fn is_name(name: &[u8]) -> bool
 fn in_string(b: u8) -> bool
     ensures { λ r. ⌜ r ≡ inString b ⌝ }
 {
-    either(both(32 <= b, b <= 126), either(b == 10, b == 9))
+    either(both(b' ' <= b, b <= b'~'), either(b == b'\n', b == b'\t'))
 }
 
 fn string_bytes(s: &[u8]) -> bool
@@ -92,7 +93,7 @@ fn string_bytes(s: &[u8]) -> bool
 pub fn is_string(s: &[u8]) -> bool
     ensures { λ r. ⌜ r ≡ isString (now (s .entry)) ⌝ }
 {
-    both(string_bytes(s), s.len() <= 1024)
+    both(string_bytes(s), s.len() <= syntax::STRING_BYTES)
 }
 
 // Whether a Real can have these digits, and so many of them after its point.
@@ -127,16 +128,16 @@ pub fn real_length(v: u64, places: u64) -> usize
 fn escaped_length(b: u8) -> usize
     ensures { λ r. ⌜ (r ≡ length (escaped b)) × (r ≤ 2) ⌝ }
 {
-    if b == 34 {
+    if b == b'"' {
         return 2;
     }
-    if b == 92 {
+    if b == b'\\' {
         return 2;
     }
-    if b == 10 {
+    if b == b'\n' {
         return 2;
     }
-    if b == 9 {
+    if b == b'\t' {
         return 2;
     }
     1
@@ -144,7 +145,7 @@ fn escaped_length(b: u8) -> usize
 
 // How long a string prints.
 pub fn string_length(s: &[u8]) -> usize
-    requires { ⌜ length (now s) ≤ 1024 ⌝ }
+    requires { ⌜ length (now s) ≤ stringBytes ⌝ }
     ensures { λ r. ⌜ (r ≡ length (literalText (string (now (s .entry))))) × (r ≤ 2 * length (now (s .entry)) + 2) ⌝ }
 {
     let mut i = 0;

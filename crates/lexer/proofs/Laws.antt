@@ -5,23 +5,24 @@ use native.Mathlib.Nat.{pow-zero, pow-succ', pow-le-pow-right, mul-one, one-mul,
 use mathlib.Core.Path.{_≡_, refl, sym, _∙_, ap, subst}
 use mathlib.Core.Bool.{Bool, true, false, true≢false, _&&_, and-true}
 use mathlib.Core.List.{List, [], _∷_, _++_, append-assoc, append-nil}
-use lib.ListN.{length, getD, take, drop, length-append, length-take, length-drop, drop-of-length-le}
+use lib.ListN.{length, getD, take, drop, length-append, length-drop, drop-of-length-le}
 use lib.Seq.{slice, slice-empty, length-slice, getD-drop}
-use lib.Dec.{ltb, leb, eqb}
+use lib.Dec.{leb, eqb}
 use borrow.Author.Tests.{lt-ltb, le-ltb, le-leb, lt-leb, eq-eqb, ne-eqb, leb-true, leb-false, eqb-true}
+use Rattle.syntax.specs.Laws.Marks.{value-append, begins-short}
 use Rattle.text.specs.Bytes.{bytes, isBlank, isDigit, startsName, continuesName}
 use Rattle.text.specs.Strings.{sameName}
 use Rattle.text.specs.Parts.{drop-one, slice-back, slice-snoc, slice-one, drop-behind}
 use Rattle.syntax.specs.Tree.{undefined, error, boolean, integer, real, string}
 use Rattle.syntax.specs.Token as T
-use Rattle.syntax.specs.Token.{Tokens, next, end, bad, pick, Front, good, wrong, frontOf, Body, closed, broken, grown, bodyOf, escapedOf, escapeOf, stringOf, valueFrom, valueOf, fractionOf, integerFront, realFront, numberFront, nameFront, wordIn, reserved, Spelling, symbolIn, spellings, begins, frontToken, tokensFrom}
+use Rattle.syntax.specs.Token.{next, end, bad, pick, Front, good, wrong, frontOf, Body, closed, broken, grown, bodyOf, escapeOf, stringOf, valueFrom, valueOf, fractionOf, integerFront, realFront, numberFront, nameFront, wordIn, reserved, Spelling, symbolIn, spellings, begins, frontToken, tokensFrom}
 use Rattle.syntax.specs.declared.Binary.the-variants.{Or, And, Equal, NotEqual, Is, Isnt, LessOrEqual, GreaterOrEqual}
 use Rattle.syntax.specs.declared.Symbol.the-variants.{Parent, Other}
 use Rattle.lexer.specs.declared.Sign.{Sign}
 use Rattle.lexer.specs.declared.Sign.the-variants as G
 use Rattle.lexer.specs.declared.Token as K
 use Rattle.lexer.specs.declared.Token.the-variants as KV
-use Rattle.lexer.specs.Inner.Meaning.{Span, signFront, SignFits, SignMeans, tokensAt, placed, stringAt, Run, Fraction, valueTo, cap, AtByte, AtBackslash}
+use Rattle.lexer.specs.Inner.Meaning.{Span, signFront, SignFits, SignMeans, tokensAt, placed, stringAt, Run, Fraction, valueTo, largestRead, AtByte, AtBackslash}
 
 -- ---- blanks
 
@@ -54,18 +55,18 @@ unfolding valueFrom
 value-grows v [] = omega arith
 value-grows v (b ∷ ds) = let h = value-grows (v * 10 + (b - 48)) ds in omega arith
 
-pub value-capped : (v : ℕ) (ds : List ℕ) → valueTo (min v cap) ds ≡ valueTo v ds
-value-capped v ds = go (leb v cap) refl
+pub value-capped : (v : ℕ) (ds : List ℕ) → valueTo (min v largestRead) ds ≡ valueTo v ds
+value-capped v ds = go (leb v largestRead) refl
   where
-    go : (t : Bool) → leb v cap ≡ t → valueTo (min v cap) ds ≡ valueTo v ds
-    go true t = let e : min v cap ≡ v = omega (arith, leb-true v cap t) in ap (λ (w : ℕ). valueTo w ds) e
-    go false t = let e : min v cap ≡ cap = omega (arith, leb-false v cap t) in ap (λ (w : ℕ). valueTo w ds) e ∙ omega (arith, leb-false v cap t, value-grows v ds, value-grows cap ds)
+    go : (t : Bool) → leb v largestRead ≡ t → valueTo (min v largestRead) ds ≡ valueTo v ds
+    go true t = let e : min v largestRead ≡ v = omega (arith, leb-true v largestRead t) in ap (λ (w : ℕ). valueTo w ds) e
+    go false t = let e : min v largestRead ≡ largestRead = omega (arith, leb-false v largestRead t) in ap (λ (w : ℕ). valueTo w ds) e ∙ omega (arith, leb-false v largestRead t, value-grows v ds, value-grows largestRead ds)
 
-pub value-step : (s : List ℕ) (i q w : ℕ) → i < q → q ≤ length s → valueTo (min (w * 10 + (getD s i 0 - 48)) cap) (slice (i + 1) q s) ≡ valueTo w (slice i q s)
+pub value-step : (s : List ℕ) (i q w : ℕ) → i < q → q ≤ length s → valueTo (min (w * 10 + (getD s i 0 - 48)) largestRead) (slice (i + 1) q s) ≡ valueTo w (slice i q s)
 unfolding valueFrom
 value-step s i q w h h′ = rw (slice-one s i q h h′) (value-capped (w * 10 + (getD s i 0 - 48)) (slice (i + 1) q s))
 
-pub value-end : (s : List ℕ) (i q w : ℕ) → i ≤ q → q ≤ i → w ≤ cap → w ≡ valueTo w (slice i q s)
+pub value-end : (s : List ℕ) (i q w : ℕ) → i ≤ q → q ≤ i → w ≤ largestRead → w ≡ valueTo w (slice i q s)
 unfolding valueFrom
 value-end s i q w h h′ h″ = rw (slice-back s i q h′) (omega arith)
 
@@ -92,11 +93,6 @@ digit-small b h = go (leb 48 b) (leb b 57) refl refl h
     go true false e e′ h = absurd (true≢false (sym h))
     go false false e e′ h = absurd (true≢false (sym h))
 
-value-append : (v : ℕ) (xs ys : List ℕ) → valueFrom v (xs ++ ys) ≡ valueFrom (valueFrom v xs) ys
-unfolding valueFrom
-value-append v [] ys = refl
-value-append v (x ∷ xs) ys = value-append (v * 10 + (x - 48)) xs ys
-
 value-bound : (v : ℕ) (ds : List ℕ) → AllDigits ds → suc (valueFrom v ds) ≤ suc v * 10 ^ length ds
 unfolding valueFrom
 value-bound v [] h = rw (pow-zero, mul-one) (le-refl _)
@@ -111,7 +107,7 @@ all-append : (xs ys : List ℕ) → AllDigits xs → AllDigits ys → AllDigits 
 all-append [] ys h h′ = h′
 all-append (x ∷ xs) ys h h′ = (h .0, all-append xs ys (h .1) h′)
 
--- up to 15 digits the cap does not show
+-- up to 15 digits the largest number read does not show
 pub value-exact : (ds fs : List ℕ) → AllDigits ds → AllDigits fs → length ds + length fs ≤ 15 → valueTo (valueTo 0 ds) fs ≡ valueOf (ds ++ fs)
 value-exact ds fs h h′ n =
     let b = value-bound 0 (ds ++ fs) (all-append ds fs h h′) in
@@ -121,8 +117,8 @@ value-exact ds fs h h′ n =
     let e = value-append 0 ds fs in
     let g = value-grows (valueFrom 0 ds) fs in
     let one : suc 0 * 10 ^ length (ds ++ fs) ≡ 10 ^ length (ds ++ fs) = one-mul _ in
-    let small : valueFrom 0 (ds ++ fs) < cap = omega arith in
-    let v : min (valueFrom 0 ds) cap ≡ valueFrom 0 ds = omega arith in
+    let small : valueFrom 0 (ds ++ fs) < largestRead = omega arith in
+    let v : min (valueFrom 0 ds) largestRead ≡ valueFrom 0 ds = omega arith in
     rw (v, ← e) (omega arith)
 
 -- ---- strings
@@ -432,16 +428,6 @@ short-first : (b c d : ℕ) → symbolIn (drop 8 spellings) (b ∷ c ∷ d ∷ [
 unfolding symbolIn spellings begins bytes
 short-first b c d = refl
 
-begins-fits : (xs l : List ℕ) → begins xs l ≡ true → length xs ≤ length l
-unfolding begins
-begins-fits [] l h = omega arith
-begins-fits (x ∷ xs) [] h = absurd (true≢false (sym h))
-begins-fits (x ∷ xs) (b ∷ l) h = go (eqb x b) (begins-fits xs l) h
-  where
-    go : (t : Bool) → (begins xs l ≡ true → length xs ≤ length l) → (t && begins xs l) ≡ true → suc (length xs) ≤ suc (length l)
-    go true f h = let z = f h in omega arith
-    go false f h = absurd (true≢false (sym h))
-
 -- every spelling has a byte
 abbrev Spelled : List Spelling → Type 0
 Spelled [] = Unit {0}
@@ -457,7 +443,7 @@ symbol-fits [] l h = tt
 symbol-fits (x ∷ ss) l h = go (begins (x .text) l) refl (symbol-fits ss l (h .1))
   where
     go : (b : Bool) → begins (x .text) l ≡ b → Fits (length l) (symbolIn ss l) → Fits (length l) (pick (begins (x .text) l) (λ _. good (x .token) (length (x .text))) (λ _. symbolIn ss l))
-    go true e f = rw e (h .0, begins-fits (x .text) l e)
+    go true e f = rw e (h .0, begins-short (x .text) l e)
     go false e f = rw e f
 
 spelled : Spelled spellings
@@ -619,10 +605,6 @@ module _ (b c d : ℕ) where
 
         pub long-none : (b ≡ 124 → ⊥) → (b ≡ 38 → ⊥) → wrong 3 ≡ Long b c d
         long-none h₁ h₂ = sym (rest ∙ rw (ne 124 b h₁, ne 38 b h₂) refl)
-
-pub name-byte : (b : ℕ) → startsName b ≡ true → continuesName b ≡ true
-unfolding continuesName
-name-byte b h = rw h refl
 
 pub span-from : (s : List ℕ) (at p : ℕ) (t : K.Token) → at ≤ p → Span s p t → Span s at t
 span-from s at p (KV.End q) h x = tt

@@ -8,7 +8,7 @@ ghost use Prim.Native.Nat.{_+_, _-_, _*_, _≤_, _<_, min};
 ghost use lib.ListN.{length, getD, drop, take};
 ghost use lib.Seq.{slice};
 ghost use Rattle.syntax.specs.Token.{escapeOf, numberFront, nameFront, stringOf, bodyOf, symbolIn, spellings};
-ghost use Rattle.lexer.specs.Inner.Meaning.{Skipped, Run, Fraction, AtByte, AtBackslash, AtToken, classOf, cap, valueTo, WordMeans, StepMeans, EndMeans, signFront, SignMeans, Scanned, Placed};
+ghost use Rattle.lexer.specs.Inner.Meaning.{Skipped, Run, Fraction, AtByte, AtBackslash, AtToken, classOf, largestRead, valueTo, WordMeans, StepMeans, EndMeans, signFront, SignMeans, Scanned, Placed};
 
 // A literal that has no bytes of its own.
 pub enum Constant {
@@ -101,13 +101,13 @@ fn run(text: &[u8], at: usize, digits: bool) -> usize
 fn digit(b: u8) -> u64
     ensures { λ r. ⌜ r ≡ b - 48 ⌝ }
 {
-    if b < 48 { 0 } else { (b - 48) as u64 }
+    if b < b'0' { 0 } else { (b - b'0') as u64 }
 }
 
-// One digit more, but no more than the cap, which keeps the number small.
+// One digit more, but no more than the largest, which keeps the number small.
 fn push(v: u64, b: u8) -> u64
-    requires { ⌜ v ≤ cap ⌝ }
-    ensures { λ r. ⌜ r ≡ min (v * 10 + (b - 48)) cap ⌝ }
+    requires { ⌜ v ≤ largestRead ⌝ }
+    ensures { λ r. ⌜ r ≡ min (v * 10 + (b - 48)) largestRead ⌝ }
 {
     let w = v * 10 + digit(b);
     if w <= 1000000000000000 {
@@ -119,7 +119,7 @@ fn push(v: u64, b: u8) -> u64
 
 // The digits from `p` up to `q`, read after `v`.
 fn value(text: &[u8], p: usize, q: usize, v: u64) -> u64
-    requires { ⌜ (p ≤ q) × (q ≤ length (now text)) × (v ≤ cap) ⌝ }
+    requires { ⌜ (p ≤ q) × (q ≤ length (now text)) × (v ≤ largestRead) ⌝ }
     ensures { λ r. ⌜ r ≡ valueTo v (slice p q (now (text .entry))) ⌝ }
 {
     let mut i = p;
@@ -137,7 +137,7 @@ fn fraction(text: &[u8], at: usize) -> usize
     ensures { λ r. ⌜ Fraction (now (text .entry)) at r ⌝ }
 {
     if at < text.len() {
-        if text[at] == 46 {
+        if text[at] == b'.' {
             let end = run(text, at + 1, true);
             if at + 1 < end {
                 return end;
@@ -173,14 +173,14 @@ fn number(text: &[u8], p: usize) -> Token
 fn escape(b: u8) -> u8
     ensures { λ r. ⌜ r ≡ escapeOf b ⌝ }
 {
-    if b == 34 {
-        34
-    } else if b == 92 {
-        92
-    } else if b == 110 {
-        10
-    } else if b == 116 {
-        9
+    if b == b'"' {
+        b'"'
+    } else if b == b'\\' {
+        b'\\'
+    } else if b == b'n' {
+        b'\n'
+    } else if b == b't' {
+        b'\t'
     } else {
         0
     }
@@ -210,16 +210,16 @@ pub fn string_step(text: &[u8], i: usize) -> StringStep
         return StringStep::Broken;
     }
     let b = text[i];
-    if b == 34 {
+    if b == b'"' {
         return StringStep::Close;
     }
-    if b == 92 {
+    if b == b'\\' {
         return escaped_step(text, i);
     }
-    if b < 32 {
+    if b < b' ' {
         return StringStep::Broken;
     }
-    if 126 < b {
+    if b'~' < b {
         return StringStep::Broken;
     }
     StringStep::Byte(b, i + 1)
@@ -257,7 +257,7 @@ fn string(text: &[u8], p: usize) -> Token
     match string_end(text, p + 1) {
         StringEnd::Broken => Token::Bad(3, p),
         StringEnd::Closed(n, q) => {
-            if 1024 < n {
+            if syntax::STRING_BYTES < n {
                 Token::Bad(7, p)
             } else {
                 Token::String(n, p, q)
@@ -305,7 +305,7 @@ fn name(text: &[u8], p: usize) -> Token
     ensures { λ r. ⌜ Placed (now (text .entry)) p (nameFront (drop p (now (text .entry)))) r ⌝ }
 {
     let q = run(text, p, false);
-    if 64 < q - p {
+    if syntax::NAME_BYTES < q - p {
         return Token::Bad(7, p);
     }
     word(text, p, q)
@@ -316,23 +316,23 @@ fn short_sign(b: u8) -> Sign
     ensures { λ r. ⌜ signFront r ≡ symbolIn (drop 8 spellings) (b ∷ []) ⌝ }
 {
     match b {
-        60 => Sign::Operator(Binary::Less, 1),
-        62 => Sign::Operator(Binary::Greater, 1),
-        43 => Sign::Operator(Binary::Add, 1),
-        45 => Sign::Operator(Binary::Subtract, 1),
-        42 => Sign::Operator(Binary::Multiply, 1),
-        47 => Sign::Operator(Binary::Divide, 1),
-        37 => Sign::Operator(Binary::Remainder, 1),
-        33 => Sign::Symbol(Symbol::Exclamation, 1),
-        63 => Sign::Symbol(Symbol::Question, 1),
-        58 => Sign::Symbol(Symbol::Colon, 1),
-        40 => Sign::Symbol(Symbol::OpenParenthesis, 1),
-        41 => Sign::Symbol(Symbol::CloseParenthesis, 1),
-        91 => Sign::Symbol(Symbol::OpenBracket, 1),
-        93 => Sign::Symbol(Symbol::CloseBracket, 1),
-        59 => Sign::Symbol(Symbol::Semicolon, 1),
-        61 => Sign::Symbol(Symbol::Assign, 1),
-        46 => Sign::Symbol(Symbol::Point, 1),
+        b'<' => Sign::Operator(Binary::Less, 1),
+        b'>' => Sign::Operator(Binary::Greater, 1),
+        b'+' => Sign::Operator(Binary::Add, 1),
+        b'-' => Sign::Operator(Binary::Subtract, 1),
+        b'*' => Sign::Operator(Binary::Multiply, 1),
+        b'/' => Sign::Operator(Binary::Divide, 1),
+        b'%' => Sign::Operator(Binary::Remainder, 1),
+        b'!' => Sign::Symbol(Symbol::Exclamation, 1),
+        b'?' => Sign::Symbol(Symbol::Question, 1),
+        b':' => Sign::Symbol(Symbol::Colon, 1),
+        b'(' => Sign::Symbol(Symbol::OpenParenthesis, 1),
+        b')' => Sign::Symbol(Symbol::CloseParenthesis, 1),
+        b'[' => Sign::Symbol(Symbol::OpenBracket, 1),
+        b']' => Sign::Symbol(Symbol::CloseBracket, 1),
+        b';' => Sign::Symbol(Symbol::Semicolon, 1),
+        b'=' => Sign::Symbol(Symbol::Assign, 1),
+        b'.' => Sign::Symbol(Symbol::Point, 1),
         _ => Sign::Nothing,
     }
 }
@@ -341,14 +341,14 @@ fn short_sign(b: u8) -> Sign
 fn equals_sign(c: u8, d: u8) -> Sign
     ensures { λ r. ⌜ signFront r ≡ symbolIn (take 8 spellings) (61 ∷ c ∷ d ∷ []) ⌝ }
 {
-    if c == 61 {
+    if c == b'=' {
         return Sign::Operator(Binary::Equal, 2);
     }
-    if d == 61 {
-        if c == 63 {
+    if d == b'=' {
+        if c == b'?' {
             return Sign::Operator(Binary::Is, 3);
         }
-        if c == 33 {
+        if c == b'!' {
             return Sign::Operator(Binary::Isnt, 3);
         }
     }
@@ -359,17 +359,17 @@ fn equals_sign(c: u8, d: u8) -> Sign
 fn long_sign(b: u8, c: u8, d: u8) -> Sign
     ensures { λ r. ⌜ signFront r ≡ symbolIn (take 8 spellings) (b ∷ c ∷ d ∷ []) ⌝ }
 {
-    if b == 61 {
+    if b == b'=' {
         return equals_sign(c, d);
     }
-    if c == 61 {
-        if b == 33 {
+    if c == b'=' {
+        if b == b'!' {
             return Sign::Operator(Binary::NotEqual, 2);
         }
-        if b == 60 {
+        if b == b'<' {
             return Sign::Operator(Binary::LessOrEqual, 2);
         }
-        if b == 62 {
+        if b == b'>' {
             return Sign::Operator(Binary::GreaterOrEqual, 2);
         }
         return Sign::Nothing;
@@ -377,10 +377,10 @@ fn long_sign(b: u8, c: u8, d: u8) -> Sign
     if b != c {
         return Sign::Nothing;
     }
-    if b == 124 {
+    if b == b'|' {
         return Sign::Operator(Binary::Or, 2);
     }
-    if b == 38 {
+    if b == b'&' {
         return Sign::Operator(Binary::And, 2);
     }
     Sign::Nothing
@@ -436,7 +436,7 @@ fn token_from(text: &[u8], p: usize) -> Token
     if text::is_digit(b) {
         return number(text, p);
     }
-    if b == 34 {
+    if b == b'"' {
         return string(text, p);
     }
     symbol_token(text, p)

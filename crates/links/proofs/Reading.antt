@@ -9,94 +9,15 @@ use native.Mathlib.Omega.{arith}
 use native.Mathlib.Decide.{ℕ-discrete}
 use lib.ListN.{length, getD, set, length-set}
 use lib.Seq.{getD-set-same, getD-set-other}
-use lib.Dec.{eqb}
 use Rattle.text.specs.Strings.{sameName}
 use Rattle.syntax.specs.Bounds.{maxNodes, maxDefinitions}
-use Rattle.graph.specs.Laws.Members.{eqb-yes, eqb-no, ltb-yes, ltb-no}
 use Rattle.graph.specs.Transition.{marked}
-use Rattle.ad.specs.Stored.{leading, kindAt, lengthAt, offsetAt, rootAt, bytesAt, nodeCount, definitionCount, arity, isReference, findFrom, find}
+use Rattle.ad.specs.Stored.{lengthAt, offsetAt, rootAt, bytesAt, definitionCount, findFrom, find}
 use Rattle.names.specs.Inner.Fingerprint.{fingerprintOf}
 use Rattle.names.specs.Laws.Matching.{other-fingerprint}
 use Rattle.links.specs.Pair.{numbered, printAt, Formed, Fingerprints}
 use Rattle.links.specs.Inner.Filling.{Filled}
-use Rattle.links.specs.Laws.Counting.{leading-more, leading-stop, nodes-few, definitions-few}
-
--- ---- kinds
-
-pub reference-own : (k : ℕ) → k ≡ 7 → true ≡ isReference k
-reference-own k e = rw (eqb-yes e) refl
-
-pub reference-other : (k : ℕ) → k ≢ 7 → eqb k 8 ≡ isReference k
-reference-other k n = rw (eqb-no n) refl
-
-module _ (k : ℕ) where
-  pub arity-none : k < 9 → 0 ≡ arity k
-  unfolding arity
-  arity-none h = rw (ltb-yes h) refl
-
-  pub arity-unary : 9 ≤ k → k < 12 → 1 ≡ arity k
-  unfolding arity
-  arity-unary a b = rw (ltb-no a, ltb-yes b) refl
-
-  pub arity-conditional : k ≡ 12 → 3 ≡ arity k
-  unfolding arity
-  arity-conditional e = rw e refl
-
-  pub arity-binary : 12 ≤ k → k ≢ 12 → k < 28 → 2 ≡ arity k
-  unfolding arity
-  arity-binary a n b = let c : 9 ≤ k = omega arith in rw (ltb-no c, ltb-no a, eqb-no n, ltb-yes b) refl
-
-  pub arity-beyond : 28 ≤ k → 0 ≡ arity k
-  unfolding arity
-  arity-beyond a =
-      let b : 9 ≤ k = omega arith in
-      let c : 12 ≤ k = omega arith in
-      let n : k ≢ 12 = λ e. omega arith in
-      rw (ltb-no b, ltb-no c, eqb-no n, ltb-no a) refl
-
--- ---- counting up to the first 0
-
-pub record Counted (f : ℕ → ℕ) (n i : ℕ) : Type 0 where
-  pub most : i ≤ n
-  pub rest : leading f 0 n ≡ i + leading f i (n - i)
-
-module _ (f : ℕ → ℕ) (n : ℕ) where
-  pub counted-first : Counted f n 0
-  counted-first = record {
-    most = omega arith;
-    rest = ap (leading f 0) (let q : n ≡ n - 0 = omega arith in q) ∙ (let q : leading f 0 (n - 0) ≡ 0 + leading f 0 (n - 0) = omega arith in q);
-  }
-
-  module _ (i : ℕ) (c : Counted f n i) where
-    pub counted-next : i < n → f i ≢ 0 → Counted f n (i + 1)
-    counted-next h e =
-        let a : leading f i (n - i) ≡ suc (leading f (suc i) (n - suc i)) =
-        ap (leading f i) (let q : n - i ≡ suc (n - suc i) = omega arith in q) ∙ sym (leading-more f i (n - suc i) e) in
-        let b : leading f (i + 1) (n - (i + 1)) ≡ leading f (suc i) (n - suc i) = ap (λ (u : ℕ). leading f u (n - u)) (add-one i) in
-        record { most = omega arith; rest = let r = c .rest in omega arith }
-
-    pub counted-stop : i < n → f i ≡ 0 → i ≡ leading f 0 n
-    counted-stop h e =
-        let a : leading f i (n - i) ≡ 0 = ap (leading f i) (let q : n - i ≡ suc (n - suc i) = omega arith in q) ∙ sym (leading-stop f i (n - suc i) e) in
-        let r = c .rest in
-        omega arith
-
-    pub counted-end : n ≤ i → i ≡ leading f 0 n
-    unfolding leading
-    counted-end h =
-        let a : leading f i (n - i) ≡ 0 = ap (leading f i) (let q : n - i ≡ 0 = omega arith in q) in
-        let r = c .rest in
-        omega arith
-
--- the counts of an ad
-module _ (w : List ℕ) where
-  pub nodes-are : {i : ℕ} → i ≡ leading (kindAt w) 0 maxNodes → i ≡ nodeCount w
-  unfolding nodeCount
-  nodes-are e = e
-
-  pub definitions-are : {i : ℕ} → i ≡ leading (lengthAt w) 0 maxDefinitions → i ≡ definitionCount w
-  unfolding definitionCount
-  definitions-are e = e
+use Rattle.links.specs.Laws.Counting.{nodes-few, definitions-few}
 
 -- ---- fingerprints
 

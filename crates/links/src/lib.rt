@@ -1,7 +1,6 @@
 // The graph of two stored ads: its nodes, links and roots by their numbers. v and b are the words and bytes of the first ad, w and
 // c those of the second.
 mod lookup;
-mod stored;
 
 ghost use mathlib.Core.Path.{_≡_};
 ghost use mathlib.Core.Bool.{false, true, not, cond};
@@ -9,12 +8,12 @@ ghost use mathlib.Core.List.{List, map, _++_};
 ghost use Prim.Native.Nat.{ℕ, _+_, _-_, _≤_, _<_};
 ghost use lib.ListN.{length, getD, take};
 ghost use lib.Dec.{ltb};
+ghost use Rattle.syntax.specs.Bounds.{maxNodes};
+ghost use Rattle.ad.specs.Layout.{adWords};
 ghost use Rattle.graph.specs.Transition.{led, needed, marked};
-ghost use Rattle.ad.specs.Stored.{kindAt, operandAt, nodeCount, isReference, find};
+ghost use Rattle.ad.specs.Stored.{kindAt, operandAt, nodeCount, isReference};
 ghost use Rattle.links.specs.Pair.{linked, linksFrom, both, pairGraph, unmarked, Formed, Measured, Stands, RootMarks, Printed, Fingerprints};
 ghost use Rattle.graph.specs.Members.{numbers, raised};
-
-const NODES: usize = 1024;
 
 const SLOTS: usize = 2048;
 
@@ -28,8 +27,8 @@ pub fn measure(words: &[u64]) -> Counts
     requires { ⌜ Formed (now words) ⌝ }
     ensures { λ r. ⌜ Measured (now (words .entry)) (r .nodes) (r .definitions) ⌝ }
 {
-    let n = stored::count_nodes(words);
-    let d = stored::count_definitions(words);
+    let n = ad::count_nodes(words);
+    let d = ad::count_definitions(words);
     Counts {
         nodes: n,
         definitions: d,
@@ -38,24 +37,24 @@ pub fn measure(words: &[u64]) -> Counts
 
 // The kind of the node x.
 fn kind_of(v: &[u64], w: &[u64], x: usize) -> u64
-    requires { ⌜ (x < 2048) × (4864 ≤ length (now v)) × (4864 ≤ length (now w)) ⌝ }
+    requires { ⌜ (x < 2048) × (adWords ≤ length (now v)) × (adWords ≤ length (now w)) ⌝ }
     ensures { λ r. ⌜ r ≡ both (kindAt (now (v .entry))) (kindAt (now (w .entry))) x ⌝ }
 {
-    if x < NODES {
+    if x < syntax::NODES {
         return ad::kind(v, x);
     }
-    ad::kind(w, x - NODES)
+    ad::kind(w, x - syntax::NODES)
 }
 
 // The number of the node x's operand i.
 fn operand_of(v: &[u64], w: &[u64], x: usize, i: usize) -> usize
-    requires { ⌜ (x < 2048) × (i < 3) × (4864 ≤ length (now v)) × (4864 ≤ length (now w)) × (1024 ≤ x → operandAt (now w) (x - 1024) i < 1024) ⌝ }
-    ensures { λ r. ⌜ r ≡ both (λ j. operandAt (now (v .entry)) j i) (λ j. 1024 + operandAt (now (w .entry)) j i) x ⌝ }
+    requires { ⌜ (x < 2048) × (i < 3) × (adWords ≤ length (now v)) × (adWords ≤ length (now w)) × (maxNodes ≤ x → operandAt (now w) (x - maxNodes) i < maxNodes) ⌝ }
+    ensures { λ r. ⌜ r ≡ both (λ j. operandAt (now (v .entry)) j i) (λ j. maxNodes + operandAt (now (w .entry)) j i) x ⌝ }
 {
-    if x < NODES {
+    if x < syntax::NODES {
         return ad::operand(v, x, i);
     }
-    NODES + ad::operand(w, x - NODES, i)
+    syntax::NODES + ad::operand(w, x - syntax::NODES, i)
 }
 
 // How many nodes x leads to, by its marks; a slot that is no node leads nowhere.
@@ -65,7 +64,7 @@ pub fn led_count(v: &[u64], w: &[u64], target: &[usize], x: usize) -> usize
     ensures few { λ r. ⌜ r ≤ 3 ⌝ }
 {
     let kind = kind_of(v, w, x);
-    if stored::is_reference(kind) {
+    if ad::is_reference(kind) {
         if target[x] == 0 {
             return 0;
         }
@@ -74,7 +73,7 @@ pub fn led_count(v: &[u64], w: &[u64], target: &[usize], x: usize) -> usize
         }
         return 1;
     }
-    stored::operands(kind)
+    ad::arity(kind)
 }
 
 // The node i of those that x leads to.
@@ -84,7 +83,7 @@ pub fn led_to(v: &[u64], w: &[u64], target: &[usize], x: usize, i: usize) -> usi
     ensures small { λ r. ⌜ r < 2048 ⌝ }
 {
     let kind = kind_of(v, w, x);
-    if stored::is_reference(kind) {
+    if ad::is_reference(kind) {
         return target[x] - 1;
     }
     operand_of(v, w, x, i)
@@ -108,18 +107,18 @@ pub fn refers(v: &[u64], w: &[u64], x: usize) -> bool
     ensures { λ r. ⌜ ((b c : List ℕ) → r ≡ pairGraph (now (v .entry)) b (now (w .entry)) c .ref x) ⌝ }
 {
     let kind = kind_of(v, w, x);
-    stored::is_reference(kind)
+    ad::is_reference(kind)
 }
 
 // The node of index i; the first ad has n.
 pub fn node_at(n: usize, i: usize) -> usize
     requires { ⌜ i < 2048 ⌝ }
-    ensures { λ r. ⌜ r ≡ cond (ltb i n) i (1024 + (i - n)) ⌝ }
+    ensures { λ r. ⌜ r ≡ cond (ltb i n) i (maxNodes + (i - n)) ⌝ }
 {
     if i < n {
         return i;
     }
-    NODES + (i - n)
+    syntax::NODES + (i - n)
 }
 
 fn opposite(b: bool) -> bool
@@ -150,11 +149,11 @@ fn found_from(
 {
     let kind = ad::kind(words, i);
     if kind == 7 {
-        let name = stored::name(words, bytes, i);
+        let name = ad::reference_name(words, bytes, i);
         return lookup::find_name(words, bytes, d, name, second, prints);
     }
     if kind == 8 {
-        let name = stored::name(words, bytes, i);
+        let name = ad::reference_name(words, bytes, i);
         let far = opposite(second);
         return lookup::find_name(others, names, e, name, far, prints);
     }
@@ -176,10 +175,10 @@ pub fn found_at(
     requires prints { ⌜ Fingerprints (now v) (now b) (now w) (now c) (now prints) ⌝ }
     ensures { λ r. ⌜ r ≡ cond (pairGraph (now (v .entry)) (now (b .entry)) (now (w .entry)) (now (c .entry)) .ref x) (marked (pairGraph (now (v .entry)) (now (b .entry)) (now (w .entry)) (now (c .entry)) .links x)) 0 ⌝ }
 {
-    if x < NODES {
+    if x < syntax::NODES {
         return found_from(v, b, d, w, c, e, x, false, prints);
     }
-    found_from(w, c, e, v, b, d, x - NODES, true, prints)
+    found_from(w, c, e, v, b, d, x - syntax::NODES, true, prints)
 }
 
 // The fingerprints of the names of all definitions.

@@ -1,8 +1,10 @@
 // Looking a name up in an ad, by fingerprints: a name is compared only with those that have its own.
 ghost use mathlib.Core.Path.{_≡_};
 ghost use mathlib.Core.List.{map};
-ghost use Prim.Native.Nat.{ℕ, _+_, _≤_, _<_};
+ghost use Prim.Native.Nat.{_+_, _≤_, _<_};
 ghost use lib.ListN.{length, getD};
+ghost use Rattle.syntax.specs.Bounds.{maxDefinitions, maxNodes};
+ghost use Rattle.ad.specs.Layout.{adWords};
 ghost use Rattle.text.specs.Strings.{sameName};
 ghost use Rattle.names.specs.Inner.Fingerprint.{fingerprintOf};
 ghost use Rattle.graph.specs.Transition.{marked};
@@ -10,25 +12,21 @@ ghost use Rattle.ad.specs.Stored.{offsetAt, lengthAt, definitionCount, bytesAt,
 ghost use Rattle.links.specs.Pair.{numbered, printAt, Formed, Printed};
 ghost use Rattle.links.specs.Inner.Filling.{Filled};
 
-const NODES: usize = 1024;
-
-const DEFINITIONS: usize = 256;
-
 // Where the fingerprint of definition j of an ad, `second` or the first, is kept.
 fn print_at(second: bool, j: usize) -> usize
-    requires { ⌜ j < 256 ⌝ }
+    requires { ⌜ j < maxDefinitions ⌝ }
     ensures { λ r. ⌜ r ≡ printAt second j ⌝ }
     ensures small { λ r. ⌜ r < 512 ⌝ }
 {
     if second {
-        return DEFINITIONS + j;
+        return syntax::DEFINITIONS + j;
     }
     j
 }
 
 // The fingerprint of the name of definition j.
 fn print_of(words: &[u64], bytes: &[u8], j: usize) -> u32
-    requires { ⌜ (j < 256) × (4864 ≤ length (now words)) ⌝ }
+    requires { ⌜ (j < maxDefinitions) × (adWords ≤ length (now words)) ⌝ }
     ensures { λ r. ⌜ r ≡ fingerprintOf (bytesAt (now (bytes .entry)) (offsetAt (now (words .entry)) j) (lengthAt (now (words .entry)) j)) ⌝ }
 {
     let at = ad::offset(words, j);
@@ -51,11 +49,11 @@ pub fn fill(words: &[u64], bytes: &[u8], d: usize, second: bool, prints: &mut [u
 
 // One more than the number of a root; those of the second ad come after those of the first.
 fn marked_root(root: usize, second: bool) -> usize
-    requires { ⌜ root < 1024 ⌝ }
+    requires { ⌜ root < maxNodes ⌝ }
     ensures { λ r. ⌜ r ≡ numbered second root + 1 ⌝ }
 {
     if second {
-        return NODES + root + 1;
+        return syntax::NODES + root + 1;
     }
     root + 1
 }
@@ -70,7 +68,7 @@ fn is_named(
     prints: &[u32],
     at: usize,
 ) -> bool
-    requires words { ⌜ (j < 256) × (4864 ≤ length (now words)) × (at < length (now prints)) ⌝ }
+    requires words { ⌜ (j < maxDefinitions) × (adWords ≤ length (now words)) × (at < length (now prints)) ⌝ }
     requires prints { ⌜ (print ≡ fingerprintOf (now name)) × (getD (now prints) at 0 ≡ fingerprintOf (bytesAt (now bytes) (offsetAt (now words) j) (lengthAt (now words) j))) ⌝ }
     ensures { λ r. ⌜ r ≡ sameName (bytesAt (now (bytes .entry)) (offsetAt (now (words .entry)) j) (lengthAt (now (words .entry)) j)) (now (name .entry)) ⌝ }
 {

@@ -1,27 +1,24 @@
 -- What the token at a place says to each question. Assumes nothing.
-use Prim.Native.Nat.{ℕ, _≤_, _<_}
+use Prim.Native.Nat.{ℕ, _≤_}
 use native.Mathlib.Omega.{arith}
-use mathlib.Core.Path.{_≡_, refl, sym, _∙_, ap, subst}
+use mathlib.Core.Path.{_≡_, refl, _∙_, ap}
 use mathlib.Core.Bool.{false}
 use mathlib.Core.List.{List}
-use lib.ListN.{length}
 use lib.Seq.{slice}
 use borrow.Author.Tests.{ne-eqb}
-use Rattle.syntax.specs.Token.{Token, word, constant, operator, symbol, Tokens, next, end, bad}
+use Rattle.syntax.specs.Token.{Token, word, constant, operator, symbol, next}
 use Rattle.syntax.specs.Grammar.{bindsOf, unaryToken}
 use Rattle.syntax.specs.Reader.{codeOf, isToken}
 use Rattle.syntax.specs.Laws.Codes.{code-same, symbol-coded, operator-low, symbol-high}
 use Rattle.syntax.specs.declared.Binary.{Binary}
-use Rattle.syntax.specs.declared.Binary.the-variants.{Or, And, Equal, NotEqual, Is, Isnt, Less, LessOrEqual, Greater, GreaterOrEqual, Add, Subtract, Multiply, Divide, Remainder}
 use Rattle.syntax.specs.declared.Unary.{Unary}
 use Rattle.syntax.specs.declared.Unary.the-variants.{Not, Plus, Minus}
 use Rattle.syntax.specs.declared.Symbol.{Symbol}
-use Rattle.syntax.specs.declared.Symbol.the-variants.{Exclamation, Question, Colon, OpenParenthesis, CloseParenthesis, OpenBracket, CloseBracket, Semicolon, Assign, Point, Other, Parent}
 use Rattle.syntax.specs.Tree.{string}
 use Rattle.lexer.specs.Inner.Meaning.{tokensAt, literalOf, stringAt, Scanned}
 use Rattle.lexer.specs.declared.Token as K
 use Rattle.lexer.specs.declared.Token.the-variants as KV
-use Rattle.lookahead.specs.Inner.Ask.{NotToken, NotWord, NotBinary, Misfit, Stands, SymbolIs, WordIs, BinaryIs, UnaryIs}
+use Rattle.lookahead.specs.Inner.Ask.{NotToken, NotWord, Misfit, SymbolIs, WordIs, BinaryIs, UnaryIs}
 use Rattle.lookahead.specs.declared.SymbolAt.the-variants as S
 use Rattle.lookahead.specs.declared.WordAt.the-variants as W
 use Rattle.lookahead.specs.declared.BinaryAt.the-variants as B

@@ -8,8 +8,8 @@ use native.Mathlib.Numerals.{add-one}
 use native.Mathlib.Omega.{arith}
 use lib.ListN.{length, set, drop, drop-of-length-le}
 use lib.Seq.{drop-cons}
+use borrow.Author.Tests.{le-ltb, lt-ltb}
 use Rattle.graph.specs.Members.{put, numbers, raised}
-use Rattle.graph.specs.Laws.Members.{ltb-yes, ltb-no}
 use Rattle.graph.specs.Graph.{Graph}
 use Rattle.graph.specs.Transition.{named, led, searchedTo, backOpen, backClosed, nextOpen, discover, close, transition}
 use Rattle.graph.specs.Laws.Transitions.{state-eq, transition-seek, transition-skip, transition-discover, transition-cross, transition-tie, transition-leave-open, transition-collect, transition-close, transition-complete}
@@ -23,11 +23,11 @@ use Rattle.marks.proofs.Slices.{names-none, names-some, mark-set, mark-
 module _ {n : ℕ} (G : Graph) (s : n ≡ G .size) where
   pub searched-more : {k : ℕ} → k < n → Starting k ≡ searchedTo G k
   unfolding searchedTo
-  searched-more {k} h = let q : k < G .size = omega arith in rw (ltb-yes q) refl
+  searched-more {k} h = let q : k < G .size = omega arith in rw (lt-ltb _ _ q) refl
 
   pub searched-over : {k : ℕ} → n ≤ k → Between 0 ≡ searchedTo G k
   unfolding searchedTo
-  searched-over {k} h = let q : G .size ≤ k = omega arith in rw (ltb-no q) refl
+  searched-over {k} h = let q : G .size ≤ k = omega arith in rw (le-ltb _ _ q) refl
 
 -- the search after k
 pub next-search : (G : Graph) (k : ℕ) {p : Place} → p ≡ searchedTo G (k + 1) → p ≡ searchedTo G (suc k)

@@ -8,8 +8,8 @@ use native.Mathlib.Numerals.{add-one}
 use native.Mathlib.Omega.{arith}
 use lib.ListN.{length, set, take, drop, drop-of-length-le}
 use lib.Seq.{drop-cons, getD-set-other, take-suc-set}
+use borrow.Author.Tests.{le-ltb, lt-ltb}
 use Rattle.graph.specs.Members.{put, numbers, raised}
-use Rattle.graph.specs.Laws.Members.{ltb-yes, ltb-no}
 use Rattle.graph.specs.Graph.{Graph}
 use Rattle.graph.specs.Transition.{named, needed, back, marked, searchedTo, resolvedTo, transition}
 use Rattle.graph.specs.Laws.Transitions.{state-eq, transition-resolve, transition-begin, transition-omit, transition-pass, transition-enter, transition-leave}
@@ -43,14 +43,14 @@ module _ {G : Graph} {i n x found : ℕ} (a : AtNode G i n x found) (len : ℕ) 
   unfolding resolvedTo
   resolve-more {j} e lt =
       let q : suc i < G .size = let s = a .size-is in omega arith in
-      resolve-to (Resolving j) (ap Resolving (e ∙ add-one i) ∙ rw (ltb-yes q) refl)
+      resolve-to (Resolving j) (ap Resolving (e ∙ add-one i) ∙ rw (lt-ltb _ _ q) refl)
 
   pub resolve-last : {j : ℕ} → j ≡ i + 1 → i < n → n ≤ j → view (Starting 0) len (set ta x found) ma fl ls ≡ transition G (view (Resolving i) len ta ma fl ls)
   unfolding resolvedTo searchedTo
   resolve-last {j} e lt le =
       let q : G .size ≤ suc i = let s = a .size-is in omega arith in
       let p : 0 < G .size = let s = a .size-is in omega arith in
-      resolve-to (Starting 0) (rw (ltb-no q, ltb-yes p) refl)
+      resolve-to (Starting 0) (rw (le-ltb _ _ q, lt-ltb _ _ p) refl)
 
 -- ---- a list search begins
 
@@ -59,7 +59,7 @@ module _ {G : Graph} {k y : ℕ} (a : AtStart G k y) (len : ℕ) (ta ma fl ls : 
   unfolding view
   begin-omit e =
       sym
-      (transition-omit G (view (Between k) len ta ma fl ls) k refl (ltb-yes (a .search-in)) (ap (markAt ma 0) (sym (a .start-is)) ∙ e)
+      (transition-omit G (view (Between k) len ta ma fl ls) k refl (lt-ltb _ _ (a .search-in)) (ap (markAt ma 0) (sym (a .start-is)) ∙ e)
       ∙ state-eq (ap Between (sym (add-one k))) refl refl refl refl refl refl refl refl refl)
 
   pub begin-enter : y < 2048 → markWords ≤ length ma → markAt ma 0 y ≢ 2 →
@@ -69,7 +69,7 @@ module _ {G : Graph} {k y : ℕ} (a : AtStart G k y) (len : ℕ) (ta ma fl ls : 
       let vs : List ℕ = 2 ∷ 0 ∷ 0 ∷ [] in
       let s = a .start-is in
       sym
-      (transition-begin G (view (Between k) len ta ma fl ls) k refl (ltb-yes (a .search-in)) (λ q. e (ap (markAt ma 0) (a .start-is) ∙ q))
+      (transition-begin G (view (Between k) len ta ma fl ls) k refl (lt-ltb _ _ (a .search-in)) (λ q. e (ap (markAt ma 0) (a .start-is) ∙ q))
       ∙ state-eq (ap (Inside k) (sym (a .start-is))) refl
       (sym (fill-at (2 ∷ 0 ∷ 0 ∷ []) ma y 0 0 (omega arith) b r (omega arith) ∙ ap (λ (u : ℕ). put (markAt ma 0) u 2) s))
       (sym (fill-at (2 ∷ 0 ∷ 0 ∷ []) ma y 0 1 (omega arith) b r (omega arith) ∙ ap (λ (u : ℕ). put (markAt ma 1) u 0) s))

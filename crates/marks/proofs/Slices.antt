@@ -1,7 +1,7 @@
 -- Slices of marks with some changed, as the rule's functions. Assumes nothing.
 use mathlib.Core.Path.{_≡_, refl, sym, ap, _∙_, fun-ext}
 use mathlib.Core.Logic.{_≢_, _⊎_, inl, inr}
-use mathlib.Core.Bool.{Bool, true, false, _||_}
+use mathlib.Core.Bool.{Bool, true, false, _||_, or-true, or-false}
 use mathlib.Core.List.{List, [], _∷_}
 use Prim.Native.Nat.{ℕ, zero, suc, _+_, _-_, _*_, _≤_, _<_}
 use native.Mathlib.Decide.{ℕ-discrete}
@@ -9,11 +9,12 @@ use native.Mathlib.Omega.{arith}
 use lib.ListN.{length, getD, set, length-set}
 use lib.Seq.{getD-set-same, getD-set-other}
 use lib.Dec.{eqb}
+use borrow.Author.Tests.{eq-eqb, le-ltb}
 use Rattle.graph.specs.Members.{put, numbers, raised}
 use Rattle.graph.specs.Graph.{Graph}
 use Rattle.graph.specs.Transition.{named}
 use Rattle.graph.specs.Laws.Transitions.{named-of, named-none}
-use Rattle.graph.specs.Laws.Members.{put-same, put-other, eqb-yes, ltb-no}
+use Rattle.graph.specs.Laws.Members.{put-same, put-other}
 use Rattle.marks.specs.Inner.Memory.{markAt, marksRoom, markWords, fill, flaggedAt, Flagged}
 
 pub numbers-set : (l : List ℕ) (x v : ℕ) → x < length l → numbers (set l x v) ≡ put (numbers l) x v
@@ -29,7 +30,7 @@ raised-set : (l : List ℕ) (x : ℕ) → x < length l → raised (set l x 1) �
 raised-set l x h = fun-ext (λ i. case i (ℕ-discrete x i))
   where
     case : (i : ℕ) → Dec (x ≡ i) → eqb (getD (set l x 1) i 0) 1 ≡ put (raised l) x true i
-    case i (yes e) = let q : getD (set l x 1) i 0 ≡ 1 = rw (← e) (getD-set-same l x 1 0 h) in eqb-yes q ∙ sym (put-same (raised l) x true e)
+    case i (yes e) = let q : getD (set l x 1) i 0 ≡ 1 = rw (← e) (getD-set-same l x 1 0 h) in eq-eqb _ _ q ∙ sym (put-same (raised l) x true e)
     case i (no ne) = ap (λ (u : ℕ). eqb u 1) (getD-set-other l x i 1 0 (λ e. ne (sym e))) ∙ sym (put-other (raised l) x true ne)
 
 put-idle : (f : ℕ → Bool) (x : ℕ) → f ≡ put f x (f x)
@@ -38,14 +39,6 @@ put-idle f x = fun-ext (λ i. case i (ℕ-discrete x i))
     case : (i : ℕ) → Dec (x ≡ i) → f i ≡ put f x (f x) i
     case i (yes e) = ap f (sym e) ∙ sym (put-same f x (f x) e)
     case i (no ne) = sym (put-other f x (f x) ne)
-
-or-true : (b : Bool) → (b || true) ≡ true
-or-true true = refl
-or-true false = refl
-
-or-false : (b : Bool) → (b || false) ≡ b
-or-false true = refl
-or-false false = refl
 
 pub raised-flagged : (l : List ℕ) (x : ℕ) (b : Bool) → x < length l → raised (flaggedAt l x b) ≡ put (raised l) x (raised l x || b)
 unfolding flaggedAt
@@ -71,7 +64,7 @@ flagged-by before x false e = inl e
 pub names-far : (G : Graph) (f : ℕ) → G .slots ≡ marksRoom → 2048 < f → named G 0 ≡ named G f
 unfolding named
 names-far G zero s h = refl
-names-far G (suc y) s h = rw (ltb-no (let q : G .slots ≤ y = omega arith in q)) refl
+names-far G (suc y) s h = rw (le-ltb _ _ (let q : G .slots ≤ y = omega arith in q)) refl
 
 module _ (G : Graph) {r : ℕ} {l : List ℕ} (e : named G r ≡ l) where
   pub names-none : r ≡ 0 → [] ≡ l

@@ -8,7 +8,7 @@ use lib.ListN.{length, getD, replicate, length-append, length-map, length-replic
 use lib.Seq.{take-all}
 use Rattle.graph.specs.Members.{_∈_, Each, raised}
 use Rattle.graph.specs.Laws.Members.{mem-nil, at-mem}
-use Rattle.graph.specs.Graph.{Graph, Sound, Node, needs, Entered}
+use Rattle.graph.specs.Graph.{Sound, Node, needs, Entered}
 use Rattle.graph.specs.Laws.Traversal.{needs-links, needs-acyclic}
 use Rattle.links.specs.Pair.{pairGraph, rootsOf, requirements, rank, Formed, Stands, RootMarks}
 use Rattle.links.specs.Laws.Soundness.{pair-sound}
@@ -37,7 +37,7 @@ finished-by steps count {p} {q} {r} {x} {y} {i} {j} {m} {n} e a b d f =
     ap (λ (z : Bool). Finished z i j steps count) (e ∙ ap (λ (z : Bool). z && q) a ∙ ap (λ (z : Bool). x && z) b)
     ∙ ap (λ (z : ℕ). Finished (x && y) z j steps count) d ∙ ap (λ (z : ℕ). Finished (x && y) m z steps count) f
 
-blank-zeros : (n x : ℕ) → slotAt (replicate n 0) x ≡ Blank
+pub blank-zeros : (n x : ℕ) → slotAt (replicate n 0) x ≡ Blank
 blank-zeros n x = rw (clear-zeros n (x * 2)) refl
 
 pub clear-long : {l : List ℕ} → l ≡ replicate 4096 0 → 4096 ≤ length l
@@ -49,9 +49,6 @@ suc-at (x ∷ l) zero h = refl
 suc-at (x ∷ l) (suc i) h = suc-at l i (let k : suc i < suc (length l) = h in omega arith)
 
 module _ (v b w c : List ℕ) {count len : ℕ} {ta fl ls : List ℕ} (f : Formed v) (g : Formed w) (t : Traversed (pairGraph v b w c) count len ta fl ls) where
-  abbrev G : Graph
-  G = pairGraph v b w c
-
   sound : Sound (pairGraph v b w c)
   sound = pair-sound v b w c f g
 

@@ -6,6 +6,7 @@ use mathlib.Core.List.{List}
 use lib.ListN.{length}
 use lib.Dec.{ltb}
 use borrow.Author.Tests.{ltb-false}
+use Rattle.text.specs.Laws.Booleans.{neither}
 
 -- ---- tests
 
@@ -18,14 +19,6 @@ not-false true e = refl
 not-false false e = absurd (true≢false e)
 
 -- ---- rooms
-
-or-first : (p q : Bool) → (p || q) ≡ false → p ≡ false
-or-first true q e = e
-or-first false q e = refl
-
-or-second : (p q : Bool) → (p || q) ≡ false → q ≡ false
-or-second true q e = absurd (true≢false e)
-or-second false q e = e
 
 pub record Rooms (n : ℕ) (v b w c table list : List ℕ) : Type 0 where
   pub first-words : 4864 ≤ length v
@@ -42,15 +35,15 @@ rooms n v b w c table list e = go (ltb (length v) 4864) refl (ltb (length b) 163
     go : (p : Bool) → ltb (length v) 4864 ≡ p → (q : Bool) → ltb (length b) 16384 ≡ q → (r : Bool) → ltb (length w) 4864 ≡ r → (s : Bool) → ltb (length c) 16384 ≡ s →
         (t : Bool) → ltb (length table) n ≡ t → (u : Bool) → ltb (length list) 2048 ≡ u → (p || (q || (r || (s || (t || u))))) ≡ false → Rooms n v b w c table list
     go p e₁ q e₂ r e₃ s e₄ t e₅ u e₆ h =
-        let h₁ = or-second p (q || (r || (s || (t || u)))) h in
-        let h₂ = or-second q (r || (s || (t || u))) h₁ in
-        let h₃ = or-second r (s || (t || u)) h₂ in
-        let h₄ = or-second s (t || u) h₃ in
+        let h₁ = neither p (q || (r || (s || (t || u)))) h .1 in
+        let h₂ = neither q (r || (s || (t || u))) h₁ .1 in
+        let h₃ = neither r (s || (t || u)) h₂ .1 in
+        let h₄ = neither s (t || u) h₃ .1 in
         record {
-          first-words = ltb-false (length v) 4864 (e₁ ∙ or-first p (q || (r || (s || (t || u)))) h);
-          first-bytes = ltb-false (length b) 16384 (e₂ ∙ or-first q (r || (s || (t || u))) h₁);
-          second-words = ltb-false (length w) 4864 (e₃ ∙ or-first r (s || (t || u)) h₂);
-          second-bytes = ltb-false (length c) 16384 (e₄ ∙ or-first s (t || u) h₃);
-          values = ltb-false (length table) n (e₅ ∙ or-first t u h₄);
-          entries = ltb-false (length list) 2048 (e₆ ∙ or-second t u h₄);
+          first-words = ltb-false (length v) 4864 (e₁ ∙ neither p (q || (r || (s || (t || u)))) h .0);
+          first-bytes = ltb-false (length b) 16384 (e₂ ∙ neither q (r || (s || (t || u))) h₁ .0);
+          second-words = ltb-false (length w) 4864 (e₃ ∙ neither r (s || (t || u)) h₂ .0);
+          second-bytes = ltb-false (length c) 16384 (e₄ ∙ neither s (t || u) h₃ .0);
+          values = ltb-false (length table) n (e₅ ∙ neither t u h₄ .0);
+          entries = ltb-false (length list) 2048 (e₆ ∙ neither t u h₄ .1);
         }

@@ -1,14 +1,13 @@
 -- The match of two stored ads: verdict, ranks, steps, and what is left in the table and in the list's room. v and b are the words and
 -- bytes of the first ad, w and c those of the second. Assumes nothing.
-use Prim.Native.Nat.{ℕ, zero, suc, _-_, _*_, _+_, _^_, _≤_, _<_}
+use Prim.Native.Nat.{ℕ, zero, suc, _-_, _*_, _^_, _≤_, _<_}
 use mathlib.Core.Path.{_≡_}
-use mathlib.Core.Bool.{Bool, true, false, cond, _&&_, _||_}
+use mathlib.Core.Bool.{Bool, true, false, cond, _&&_}
 use mathlib.Core.List.{List, [], _∷_, _++_, map}
 use lib.ListN.{length, take, drop, replicate}
 use lib.Dec.{ltb}
-use Rattle.syntax.specs.Tree.{Ad}
 use Rattle.ad.specs.Layout.{adWords, adBytesRoom}
-use Rattle.well_formed.specs.WellFormed.{Holds}
+use Rattle.admission.specs.Admission.{listWords, smallPair, Well}
 use Rattle.integers.specs.Integers.{width}
 use Rattle.values.specs.declared.Value.{Value}
 use Rattle.values.specs.declared.Value.the-variants.{Undefined}
@@ -92,19 +91,9 @@ pub record Match (v b w c : List ℕ) (budget : ℕ) (table list : List ℕ) (r 
 abbrev pub tableWords : ℕ
 tableWords = 4096
 
--- 'and a list of 2,048 entries', of one word each (docs/LAYOUT.md)
-abbrev pub listWords : ℕ
-listWords = 2048
-
 -- 'lent room smaller than above'
 abbrev pub small : (v b w c table list : List ℕ) → Bool
-small v b w c table list =
-    ltb (length v) adWords || (ltb (length b) adBytesRoom || (ltb (length w) adWords || (ltb (length c) adBytesRoom || (ltb (length table) tableWords || ltb (length list) listWords))))
-
--- the words w and the bytes b hold a well-formed ad, of whose room only the front counts: 'stored numbers are no well-formed tree within
--- the bounds above' does not hold of them
-abbrev pub Well : List ℕ → List ℕ → Type 0
-Well w b = (a : Ad) × Holds (take adWords w) (take adBytesRoom b) a
+small v b w c table list = smallPair v b w c (length table) tableWords (length list)
 
 -- THE CONTRACT OF `match_ads`, over any memory: table′ and list′ are what is lent of them after it. 'Matching checks 1, then 10 for the
 -- first ad, then 10 for the second', and then 'all unchanged'; otherwise 'Memory lent beyond these sizes is never changed.'

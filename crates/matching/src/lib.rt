@@ -1,24 +1,21 @@
 // The match of two stored ads. v and b are the words and bytes of the first ad, w and c those of the second.
 ghost use mathlib.Core.Path.{_≡_};
-ghost use mathlib.Core.Bool.{false, true, cond, _&&_, _||_};
-ghost use Prim.Native.Nat.{_-_, _^_, _≤_, _<_};
+ghost use mathlib.Core.Bool.{false, cond, _&&_};
+ghost use Prim.Native.Nat.{_-_, _^_, _<_};
 ghost use lib.ListN.{length, replicate};
 ghost use lib.Dec.{ltb};
 ghost use Rattle.integers.specs.Integers.{width};
 ghost use Rattle.values.specs.Values.{bytesAt, PartFrom};
 ghost use Rattle.links.specs.Pair.{Formed};
 ghost use Rattle.dependency.specs.Traversal.{Ready};
-ghost use Rattle.matching.specs.Matching.{isTrue, rankOf, worthAt, Match, Well, Matched, shownAt};
+ghost use Rattle.matching.specs.Matching.{isTrue, rankOf, worthAt, Match, Matched, shownAt};
 ghost use Rattle.matching.specs.declared.Outcome.the-variants.{Finished};
 use links::Roots;
 use slots::Slot;
 use values::Value;
-use well_formed::Checked;
 
 // 2,048 values of two words, and 2,048 entries.
 const VALUES: usize = 4096;
-
-const ENTRIES: usize = 2048;
 
 const NODES: usize = 1024;
 
@@ -140,38 +137,6 @@ fn match_formed(
     match_marked(v, b, w, c, &mut target, &mut flag, list, table, budget)
 }
 
-// Whether the lent memory is smaller than the room of two ads, 2,048 values and 2,048 entries.
-fn too_small(v: &[u64], b: &[u8], w: &[u64], c: &[u8], values: usize, entries: usize) -> bool
-    ensures { λ r. ⌜ r ≡ (ltb (length (now (v .entry))) 4864 || (ltb (length (now (b .entry))) 16384 || (ltb (length (now (w .entry))) 4864 || (ltb (length (now (c .entry))) 16384 || (ltb values 4096 || ltb entries 2048))))) ⌝ }
-{
-    if v.len() < ad::WORDS {
-        return true;
-    }
-    if b.len() < ad::BYTES {
-        return true;
-    }
-    if w.len() < ad::WORDS {
-        return true;
-    }
-    if c.len() < ad::BYTES {
-        return true;
-    }
-    if values < VALUES {
-        return true;
-    }
-    entries < ENTRIES
-}
-
-// Whether the lent memory holds a well-formed ad.
-pub fn well(words: &[u64], bytes: &[u8]) -> bool
-    ensures { λ r. ⌜ (r ≡ true → Well (now (words .entry)) (now (bytes .entry))) × (r ≡ false → ¬ (Well (now (words .entry)) (now (bytes .entry)))) ⌝ }
-{
-    match well_formed::check(words, bytes) {
-        Checked::WellFormed(_, _, _) => true,
-        Checked::Malformed => false,
-    }
-}
-
 // THE MATCH of two stored ads, whatever is lent.
 pub fn match_ads(
     v: &[u64],
@@ -184,13 +149,13 @@ pub fn match_ads(
 ) -> Outcome
     ensures { λ r. ⌜ Matched (now (v .entry)) (now (b .entry)) (now (w .entry)) (now (c .entry)) budget (now (table .entry)) (now (list .entry)) (now (table .exit)) (now (list .exit)) r ⌝ }
 {
-    if too_small(v, b, w, c, table.len(), list.len()) {
+    if admission::too_small(v, b, w, c, table.len(), VALUES, list.len()) {
         return Outcome::Refused(1, 0);
     }
-    if !well(v, b) {
+    if !admission::well(v, b) {
         return Outcome::Refused(10, 0);
     }
-    if !well(w, c) {
+    if !admission::well(w, c) {
         return Outcome::Refused(10, 0);
     }
     match_formed(
@@ -199,7 +164,7 @@ pub fn match_ads(
         &w[..ad::WORDS],
         &c[..ad::BYTES],
         &mut table[..VALUES],
-        &mut list[..ENTRIES],
+        &mut list[..admission::ENTRIES],
         budget,
     )
 }

@@ -9,7 +9,6 @@ use Rattle.syntax.specs.declared.Unary.{Unary}
 use Rattle.ad.specs.Stored.{arity, isReference, unaryOf, binaryOf}
 use Rattle.values.specs.declared.Value.{Value}
 use Rattle.nodes.specs.Nodes.{constantOf, nodeOf}
-use Rattle.nodes.specs.declared.Node.{Node}
 use Rattle.nodes.specs.declared.Node.the-variants.{Constant, Reference, OfOne, OfTwo, Conditional}
 
 -- r is what the kind was found to be, and n how many operands it has

@@ -1,6 +1,6 @@
 -- What a node is, from its stored numbers, and its rule: what it makes of the values of its needs. Assumes nothing.
 use Prim.Native.Nat.{ℕ, zero, suc, _%_, _^_}
-use mathlib.Core.Bool.{Bool, true, false, cond, not}
+use mathlib.Core.Bool.{Bool, cond, not}
 use mathlib.Core.List.{List, [], _∷_}
 use lib.ListN.{length}
 use lib.Dec.{eqb}

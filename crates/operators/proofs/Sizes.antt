@@ -17,10 +17,10 @@ use Rattle.values.specs.declared.Value.the-variants.{Undefined, Error, Boolean,
 use Rattle.values.specs.Values.{Sized}
 use Rattle.logic.specs.declared.Truth.{Truth}
 use Rattle.logic.specs.declared.Truth.the-variants as truth
-use Rattle.logic.specs.Logic.{truthOf, row, andTable, orTable, notValue, conditionalValue}
+use Rattle.logic.specs.Logic.{truthOf, row, andTable, orTable, conditionalValue}
 use Rattle.operands.specs.declared.Operands.{Operands}
 use Rattle.operands.specs.declared.Operands.the-variants.{Refused, Missing, Integers, Reals, Strings}
-use Rattle.operands.specs.Inner.Operands.{withUndefined, withInteger, withReal, withString, operandsOf, numberOnly}
+use Rattle.operands.specs.Inner.Operands.{withUndefined, withInteger, withReal, operandsOf, numberOnly}
 use Rattle.arithmetic.specs.declared.Arithmetic.{Arithmetic}
 use Rattle.arithmetic.specs.declared.Arithmetic.the-variants as Arithmetic
 use Rattle.arithmetic.specs.Arithmetic.{integersResult, realsResult, arithmeticResult, arithmeticValue, minusValue, plusValue}
@@ -96,7 +96,7 @@ dividend (Integer x) b h = integer-dividend x b
 dividend (Real x) b h = real-dividend x b h
 dividend (String s o n) b h = tt
 
-choose : (b : Bool) (u v : Value) → Sized u → Sized v → Sized (cond b u v)
+pub choose : (b : Bool) (u v : Value) → Sized u → Sized v → Sized (cond b u v)
 choose true u v p q = p
 choose false u v p q = q
 

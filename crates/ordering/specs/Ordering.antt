@@ -2,15 +2,15 @@
 -- those of the second. Assumes nothing.
 use Prim.Native.Nat.{ℕ, suc, _-_, _≤_}
 use mathlib.Core.Path.{_≡_}
-use mathlib.Core.Bool.{Bool, true, false, _||_}
+use mathlib.Core.Bool.{Bool, true, false}
 use mathlib.Core.List.{List, [], _++_, map}
 use lib.ListN.{length, getD, take, drop, replicate}
-use lib.Dec.{ltb}
 use Rattle.ad.specs.Layout.{adWords, adBytesRoom}
 use Rattle.graph.specs.Members.{raised}
 use Rattle.graph.specs.Graph.{Flags, needs, Entered}
 use Rattle.links.specs.Pair.{pairGraph}
-use Rattle.matching.specs.Matching.{Counted, Well, listWords}
+use Rattle.matching.specs.Matching.{Counted}
+use Rattle.admission.specs.Admission.{listWords, smallPair, Well}
 use Rattle.ordering.specs.declared.Order.{Order}
 use Rattle.ordering.specs.declared.Order.the-variants.{Refused, Found}
 
@@ -36,8 +36,7 @@ pub record OrdersBy (v b w c flags list : List ℕ) (r : Order) : Type 0 where
 
 -- 'lent room smaller than above': of two ads, 2,048 flags and 2,048 entries
 abbrev pub tight : (v b w c flags list : List ℕ) → Bool
-tight v b w c flags list =
-    ltb (length v) adWords || (ltb (length b) adBytesRoom || (ltb (length w) adWords || (ltb (length c) adBytesRoom || (ltb (length flags) listWords || ltb (length list) listWords))))
+tight v b w c flags list = smallPair v b w c (length flags) listWords (length list)
 
 -- THE CONTRACT OF `order_ads`, over any memory. It refuses as a match does: 'Matching checks 1, then 10 for the first ad, then 10 for the
 -- second', with 'all unchanged'; and 'Memory lent beyond these sizes is never changed.'

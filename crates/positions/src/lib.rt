@@ -1,7 +1,6 @@
 // Where a byte of a text stands for a person: its line and its column.
 ghost use mathlib.Core.Path.{_≡_};
 ghost use Prim.Native.Nat.{_+_, _-_, _^_, _<_, min};
-ghost use lib.ListN.{length};
 ghost use Rattle.positions.specs.Positions.{lineAfter, columnAfter, Stands};
 
 // A line and a column, both from 1.
@@ -25,7 +24,7 @@ fn behind(p: Position, b: u8) -> Position
     requires { ⌜ (p .line < 2 ^ 64 - 1) × (p .column < 2 ^ 64 - 1) ⌝ }
     ensures { λ r. ⌜ (r .line ≡ lineAfter (p .line) b) × (r .column ≡ columnAfter (p .column) b) ⌝ }
 {
-    if b == 10 {
+    if b == b'\n' {
         return Position {
             line: p.line + 1,
             column: 0,

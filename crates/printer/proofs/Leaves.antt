@@ -1,5 +1,5 @@
 -- The text of a literal or a reference, by the kind of its node. Assumes nothing.
-use Prim.Native.Nat.{ℕ, _+_, _-_}
+use Prim.Native.Nat.{ℕ}
 use native.Mathlib.Omega.{arith}
 use mathlib.Core.Path.{_≡_, refl, sym, _∙_, ap}
 use mathlib.Core.Bool.{Bool, true, false, _&&_}
@@ -7,6 +7,7 @@ use mathlib.Core.List.{List, _++_}
 use lib.ListN.{length}
 use lib.Dec.{eqb}
 use borrow.Author.Tests.{eqb-true, ne-eqb}
+use Rattle.text.specs.Laws.Booleans.{and-left}
 use Rattle.text.specs.Bytes.{bytes}
 use Rattle.syntax.specs.Tree.{Literal, undefined, error, boolean, integer, real, string, own, other, Expr, literal, reference}
 use Rattle.syntax.specs.Print.{decimal, literalText, referenceText, printed}
@@ -14,7 +15,6 @@ use Rattle.lexemes.specs.Inner.Lexeme.{isName, isString, isReal}
 use Rattle.ad.specs.Stored.{kindAt, operandAt, bytesAt}
 use Rattle.writer.specs.Inner.Put.{Near}
 use Rattle.well_formed.specs.Inner.Decode.{Found, got, bad, test, keywordFits, booleanFits, integerFits, standsAt, leafOf, leafAt}
-use Rattle.well_formed.specs.Laws.Shapes.{and-left}
 
 none : {e : Expr} → bad ≡ got e → ⊥
 none h = let z : _≡_ {A = ℕ} 0 1 = cc in omega arith

@@ -6,6 +6,8 @@ ghost use mathlib.Core.Path.{_≡_};
 ghost use Prim.Native.Nat.{_+_, _≤_, _<_};
 ghost use lib.ListN.{length};
 ghost use lib.Dec.{eqb};
+ghost use Rattle.syntax.specs.Bounds.{maxNodes};
+ghost use Rattle.ad.specs.Layout.{adWords, adBytesRoom};
 ghost use Rattle.syntax.specs.Tree.{boolean};
 ghost use Rattle.syntax.specs.Print.{literalText, printed};
 ghost use Rattle.writer.specs.Inner.Put.{Near, Puts};
@@ -55,7 +57,7 @@ fn put_leaf(words: &[u64], bytes: &[u8], i: usize, out: &mut [u8], at: usize) ->
 
 // How tight the tree binds whose last node is i.
 fn binding(words: &[u64], i: usize) -> usize
-    requires { ⌜ (i < 1024) × (4864 ≤ length (now words)) ⌝ }
+    requires { ⌜ (i < maxNodes) × (adWords ≤ length (now words)) ⌝ }
     ensures { λ r. ⌜ r ≡ bindsKind (kindAt (now (words .entry)) i) ⌝ }
 {
     let k = ad::kind(words, i);
@@ -116,9 +118,9 @@ fn put_operand(
     if need <= binding(words, i) {
         return put_tree(words, bytes, i, out, at);
     }
-    put_byte(out, at, 40);
+    put_byte(out, at, b'(');
     let m = put_tree(words, bytes, i, out, at + 1);
-    put_byte(out, m, 41);
+    put_byte(out, m, b')');
     m + 1
 }
 
@@ -164,14 +166,14 @@ fn put_ad(words: &[u64], bytes: &[u8], d: usize, out: &mut [u8])
     requires { ⌜ TableFits (now words) (now bytes) 0 d 2 ⌝ }
     ensures { λ _. ⌜ AdWritten (now (words .entry)) (now (bytes .entry)) d (now (out .entry)) (now (out .exit)) ⌝ }
 {
-    put_byte(out, 0, 91);
+    put_byte(out, 0, b'[');
     let m = put_definitions(words, bytes, 0, d, out, 1);
     put(b"]", out, m);
 }
 
 // Printing over exactly the room of an ad.
 fn print_room(words: &[u64], bytes: &[u8], out: &mut [u8]) -> Printed
-    requires { ⌜ (length (now words) ≡ 4864) × (length (now bytes) ≡ 16384) ⌝ }
+    requires { ⌜ (length (now words) ≡ adWords) × (length (now bytes) ≡ adBytesRoom) ⌝ }
     ensures { λ r. ⌜ Prints (now (words .entry)) (now (bytes .entry)) (now (out .entry)) (now (out .exit)) r ⌝ }
 {
     match well_formed::check(words, bytes) {

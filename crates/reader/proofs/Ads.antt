@@ -1,13 +1,12 @@
 -- The memory of an ad, stored one definition after the other, and its names found again. Assumes nothing.
-use Prim.Native.Nat.{ℕ, zero, suc, _+_, _-_, _*_, _≤_, _<_}
+use Prim.Native.Nat.{ℕ, suc, _+_, _-_, _*_, _≤_, _<_}
 use native.Mathlib.Omega.{arith}
-use native.Mathlib.Nat.{add-zero, zero-add}
-use native.Mathlib.Numerals.{add-one}
-use mathlib.Core.Path.{_≡_, refl, sym, _∙_, ap, subst}
-use mathlib.Core.Bool.{Bool, true, false, _||_}
+use mathlib.Core.Path.{_≡_, refl, sym, _∙_, ap}
 use mathlib.Core.List.{List, [], _∷_, _++_, append-assoc, append-nil}
-use lib.ListN.{length, getD, set, take, drop, length-append, length-take}
-use lib.Seq.{sets, set-comm, sets-eq, length-sets, take-append-seam, drop-append-seam, drop-drop, getD-drop, drop-at}
+use lib.ListN.{length, set, take, drop, length-append, length-take}
+use lib.Seq.{sets, set-comm, sets-eq, length-sets, drop-at}
+use Rattle.leaves.proofs.Laws.{stores, marks}
+use Rattle.ad.specs.Laws.Content.{length-ad, length-entries, length-nodes}
 use Rattle.text.specs.Parts.{sets-append}
 use Rattle.syntax.specs.Tree.{Expr, Definition, Ad, size, nodes}
 use Rattle.syntax.specs.Grammar.{defined}
@@ -15,8 +14,7 @@ use Rattle.ad.specs.Layout.{exprNodes, exprBytes, adNodes, adDefinitions, adByt
 use Rattle.ad.specs.Stored.{definedIn}
 use Rattle.ad.specs.Laws.Names.{names-in}
 use Rattle.leaves.specs.Inner.Marks.{Mark, mark, Memory, memory}
-use Rattle.expressions.proofs.Words.{length-nodes, stores, marks}
-use Rattle.reader.specs.Inner.Post.{ends, storedIn, Holds, one}
+use Rattle.reader.specs.Inner.Post.{storedIn, Holds, one}
 
 -- ---- one definition more
 
@@ -72,16 +70,6 @@ definitions-stored n o (x ∷ a) d =
     let j : o + length (x .name) + length (exprBytes e) + length (adBytes a) ≡ o + length (x .name ++ (exprBytes e ++ adBytes a)) = omega arith in
     ap (λ (r : List ℕ). o ∷ length (x .name) ∷ (n + size e - 1) ∷ r) (h ∙ ap (_++_ (adDefinitions (n + size e) (o + length (x .name) + length (exprBytes e)) a)) (entries (length (d .name)) j i))
 
-pub length-ad-nodes : (n o : ℕ) (a : Ad) → length (adNodes n o a) ≡ 4 * nodes a
-unfolding adNodes nodes
-length-ad-nodes n o [] = refl
-length-ad-nodes n o (x ∷ a) = simp length-append (omega (arith, length-nodes n (o + length (x .name)) (x .expression), length-ad-nodes (n + size (x .expression)) (o + length (x .name) + length (exprBytes (x .expression))) a))
-
-pub length-ad-definitions : (n o : ℕ) (a : Ad) → length (adDefinitions n o a) ≡ 3 * length a
-unfolding adDefinitions
-length-ad-definitions n o [] = refl
-length-ad-definitions n o (x ∷ a) = let h = length-ad-definitions (n + size (x .expression)) (o + length (x .name) + length (exprBytes (x .expression))) a in omega arith
-
 -- ---- stores that do not meet
 
 set-sets : (ys l : List ℕ) (i j x : ℕ) → i < j → set (sets l j ys) i x ≡ sets (set l i x) j ys
@@ -114,8 +102,8 @@ module _ (d : ℕ) (m : Mark) (w v : Memory) (a : Ad) (H : Holds d m w v a) (nam
       let N = adNodes 0 0 a in
       let X = exprNodes (nodes a) (length (adBytes a) + length name) e in
       let T = entry (length (adBytes a)) (length name) (nodes a + size e - 1) in
-      let lN = length-ad-nodes 0 0 a in
-      let lD = length-ad-definitions 0 0 a in
+      let lN = length-ad 0 0 a in
+      let lD = length-entries 0 0 a in
       let z₁ : 0 + nodes a ≡ nodes a = omega arith in
       let z₂ : 0 + length (adBytes a) + length name ≡ length (adBytes a) + length name = omega arith in
       let z₃ : 0 + length (adBytes a) ≡ length (adBytes a) = omega arith in
@@ -163,7 +151,7 @@ names-found d m w v a H hd hw hb name =
     (H .memory-of) in
     let s₂ : w .bytes ≡ sets (v .bytes) 0 (adBytes a) = ap (λ (z : Memory). z .bytes)
     (H .memory-of) in
-    let lD = length-ad-definitions 0 0 a in
+    let lD = length-entries 0 0 a in
     let e₁ : length (w .words) ≡ length l = ap length s₁
     ∙ length-sets l 4096 (adDefinitions 0 0 a) in
     let e₂ : length (w .bytes) ≡ length (v .bytes) = ap length s₂

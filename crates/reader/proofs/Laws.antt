@@ -2,29 +2,28 @@
 use Prim.Native.Nat.{ℕ, zero, suc, _+_, _-_, _*_, _≤_, _<_}
 use native.Mathlib.Omega.{arith}
 use mathlib.Core.Path.{_≡_, refl, sym, _∙_, ap, subst}
-use mathlib.Core.Bool.{Bool, true, false, _||_}
+use mathlib.Core.Bool.{Bool, true, false}
 use mathlib.Core.List.{List, [], _∷_, _++_}
 use lib.ListN.{length, take, drop}
 use lib.Seq.{sets, slice, length-slice, length-sets}
 use borrow.Author.Tests.{le-leb, lt-leb}
 use Rattle.text.specs.Parts.{part-slice}
-use Rattle.syntax.specs.Tree.{Expr, Definition, Ad, size, nodes}
+use Rattle.syntax.specs.Tree.{Expr, Ad, size, nodes}
 use Rattle.syntax.specs.Token as T
 use Rattle.syntax.specs.Token.{Tokens, next, end, bad}
 use Rattle.syntax.specs.Grammar.{defined}
 use Rattle.syntax.specs.Reader as R
-use Rattle.syntax.specs.Reader.{Parsed, ok, refused, misfit, onToken, onWord, wantA, afterA, endA, admit, limits, count, enough, conditionalAt, definitionsAt, behindAt, adAt, parse}
+use Rattle.syntax.specs.Reader.{ok, misfit, afterA, endA, admit, limits, count, enough, conditionalAt, definitionsAt, behindAt, adAt, parse}
 use Rattle.syntax.specs.declared.Symbol.the-variants.{OpenBracket, CloseBracket, Semicolon, Assign}
 use Rattle.lexer.specs.Inner.Meaning.{tokensAt}
 use Rattle.lookahead.specs.Inner.Ask.{NotToken, NotWord, Misfit, Stands}
 use Rattle.ad.specs.Layout.{exprNodes, exprBytes, adNodes, adDefinitions, adBytes}
 use Rattle.ad.specs.Stored.{definedIn}
-use Rattle.leaves.specs.Inner.Marks.{Mark, mark, past, Memory, memory, written, left, Inside}
+use Rattle.leaves.specs.Inner.Marks.{Mark, mark, Memory, memory, left}
 use Rattle.leaves.proofs.Laws.{fewer-left, misfit-of, token-off, word-off}
 use Rattle.expressions.specs.Inner.Post.{ConditionalOk}
 use Rattle.expressions.specs.declared.Read.the-variants as E
-use Rattle.expressions.proofs.Words.{stores}
-use Rattle.reader.specs.Inner.Post.{ends, storedIn, Holds, AgreesAd, DefinitionsOk, BehindOk, EndOk, definitionAt, one, DefinitionOk}
+use Rattle.reader.specs.Inner.Post.{Holds, AgreesAd, DefinitionsOk, BehindOk, EndOk, definitionAt, one, DefinitionOk}
 use Rattle.reader.specs.declared.Answer.{Answer}
 use Rattle.reader.specs.declared.Answer.the-variants.{Accepted, Refused}
 use Rattle.reader.proofs.Ads.{names-found, holds-more}
@@ -66,9 +65,6 @@ module _ (s : List ℕ) (p q d : ℕ) (m : Mark) (w : Memory) (few : d ≤ 256) 
       module _ (p₁ t : ℕ) (g : Stands s q p₁ (T.symbol Assign) t) (hq : q ≤ length s) (b₁ : List ℕ) (hc : b₁ ≡ sets (w .bytes) (m .bytes) (slice p q s)) where
         behind-assign : (a : Ad) (v : Memory) → Holds d m w v a → (go : Expr → Tokens → R.Answer) → definitionAt (tokensAt s q) (slice p q s) p a (m .nodes) go ≡ afterA (conditionalAt limits (enough (tokensAt s t)) (tokensAt s t) 0 (m .nodes)) go
         behind-assign a v H go = passes a v H _ ∙ rw (g .stands) refl
-
-        m₁ : Mark
-        m₁ = mark (m .nodes) (m .bytes + (q - p))
 
         pub definition-refused : (w′ w″ : Memory) (k y : ℕ) → ConditionalOk s t 0 (mark (m .nodes) (m .bytes + (q - p))) 0 (memory (w .words) b₁) w″ (E.Refused k y) → DefinitionOk s p q d m w w′ (E.Refused k y)
         definition-refused w′ w″ k y h a v H go =

@@ -1,24 +1,22 @@
 -- What the whole reader answers and leaves. Assumes nothing.
-use Prim.Native.Nat.{ℕ, zero, suc, _+_, _-_, _*_, _≤_, _<_}
+use Prim.Native.Nat.{ℕ, zero, suc, _+_, _-_, _≤_, _<_}
 use native.Mathlib.Omega.{arith}
 use native.Mathlib.Nat.{zero-add}
 use mathlib.Core.Path.{_≡_, refl, sym, _∙_, ap}
-use mathlib.Core.Bool.{Bool, true, false, _||_}
-use mathlib.Core.List.{List, [], _∷_, _++_, append-assoc}
+use mathlib.Core.List.{List, _++_, append-assoc}
 use lib.ListN.{length, take, drop, replicate, length-append, length-replicate, replicate-append-replicate}
-use lib.Seq.{sets, sets-eq, take-at, drop-at, drop-append-add}
+use lib.Seq.{sets, sets-eq, take-at, drop-append-add}
 use borrow.Author.Tests.{lt-ltb, le-ltb}
-use Rattle.syntax.specs.Tree.{Ad, nodes}
+use Rattle.ad.specs.Laws.Content.{length-ad, length-entries}
 use Rattle.syntax.specs.Reader as R
 use Rattle.syntax.specs.Reader.{parse, read}
 use Rattle.syntax.specs.Laws.Accepts.{accepts}
 use Rattle.ad.specs.Layout.{padded, adNodes, adDefinitions, adBytes, storedWords, storedBytes}
 use Rattle.leaves.specs.Inner.Marks.{Memory, memory}
-use Rattle.reader.specs.Content.{answerOf, wordsOf, bytesOf, answer, wordsAfter, bytesAfter, Answered, Left, Cleared}
-use Rattle.reader.specs.Inner.Post.{storedIn, AgreesAd}
+use Rattle.reader.specs.Content.{answer, wordsAfter, bytesAfter, Answered, Left, Cleared}
+use Rattle.reader.specs.Inner.Post.{AgreesAd}
 use Rattle.reader.specs.declared.Answer.{Answer}
 use Rattle.reader.specs.declared.Answer.the-variants.{Accepted, Refused}
-use Rattle.reader.proofs.Ads.{length-ad-nodes, length-ad-definitions}
 
 zeros : {i j : ℕ} → i ≡ j → replicate {A = ℕ} i 0 ≡ replicate j 0
 zeros e = ap (λ (k : ℕ). replicate {A = ℕ} k 0) e
@@ -65,8 +63,8 @@ module _ (s w₀ b₀ w′ b′ : List ℕ) (hw : w₀ ≡ replicate 4864 0) (hb
   into-ad d n (a, e, hd, hn, hm, hl) =
       let k = accepts s a .0 e .3 in
       let l₀ : length b₀ ≡ 16384 = ap length hb ∙ length-replicate {A = ℕ} 16384 0 in
-      let f₁ : length (adNodes 0 0 a) ≤ 4096 = omega (arith, length-ad-nodes 0 0 a, k .few-nodes) in
-      let f₂ : length (adDefinitions 0 0 a) ≤ 768 = omega (arith, length-ad-definitions 0 0 a, k .few-definitions) in
+      let f₁ : length (adNodes 0 0 a) ≤ 4096 = omega (arith, length-ad 0 0 a, k .few-nodes) in
+      let f₂ : length (adDefinitions 0 0 a) ≤ 768 = omega (arith, length-entries 0 0 a, k .few-definitions) in
       let f₃ : length (adBytes a) ≤ 16384 = omega arith in
       let m₁ : w′ ≡ sets (sets w₀ 0 (adNodes 0 0 a)) 4096 (adDefinitions 0 0 a) = ap (λ (z : Memory). z .words) hm in
       let m₂ : b′ ≡ sets b₀ 0 (adBytes a) = ap (λ (z : Memory). z .bytes) hm in

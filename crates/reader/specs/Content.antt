@@ -7,7 +7,7 @@ use mathlib.Core.List.{List, _++_}
 use lib.ListN.{length, drop, replicate}
 use lib.Dec.{ltb}
 use Rattle.syntax.specs.Bounds.{textBytes}
-use Rattle.syntax.specs.Tree.{Ad, nodes}
+use Rattle.syntax.specs.Tree.{nodes}
 use Rattle.syntax.specs.Token.{pick}
 use Rattle.syntax.specs.Reader as R
 use Rattle.ad.specs.Layout.{adWords, adBytesRoom, storedWords, storedBytes, smallAd}

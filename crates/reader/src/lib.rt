@@ -4,9 +4,9 @@ use lexer::Token;
 use lookahead::SymbolAt;
 use lookahead::WordAt;
 use syntax::Symbol;
-ghost use mathlib.Core.Path.{_≡_};
 ghost use Prim.Native.Nat.{_+_, _≤_, _<_};
 ghost use lib.ListN.{length};
+ghost use Rattle.ad.specs.Layout.{adWords};
 ghost use Rattle.leaves.specs.Inner.Marks.{mark, memory};
 ghost use Rattle.reader.specs.Inner.Post.{AdRoom, AgreesAd, DefinitionsOk, BehindOk, EndOk, DefinitionOk, DefinitionWithin};
 ghost use Rattle.reader.specs.Content.{Exact, Left, Cleared, Answered};
@@ -54,7 +54,7 @@ fn read_definition(
     if ad::defined(words, bytes, d, &text[p..q]) {
         return Read::Refused(8, p);
     }
-    if 256 <= d {
+    if syntax::DEFINITIONS <= d {
         return Read::Refused(9, p);
     }
     match lookahead::symbol_at(text, q, Symbol::Assign) {
@@ -121,7 +121,7 @@ fn read_behind(
 
 // An ad that is the whole text, into memory that is zero.
 fn read_ad(text: &[u8], words: &mut [u64], bytes: &mut [u8]) -> Answer
-    requires { ⌜ (4864 ≤ length (now words)) × (length (now text) ≤ length (now bytes)) ⌝ }
+    requires { ⌜ (adWords ≤ length (now words)) × (length (now text) ≤ length (now bytes)) ⌝ }
     ensures { λ r. ⌜ AgreesAd (memory (now (words .entry)) (now (bytes .entry))) (memory (now (words .exit)) (now (bytes .exit))) (parse (now (text .entry))) r ⌝ }
 {
     match lookahead::symbol_at(text, 0, Symbol::OpenBracket) {

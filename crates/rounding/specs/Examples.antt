@@ -1,7 +1,7 @@
 -- Worked examples of rounding once: a tenth, both ties, and each edge of binary64. Assumes nothing.
 use mathlib.Core.Path.{_≡_, refl, subst}
 use mathlib.Core.Bool.{Bool, true, false}
-use Prim.Native.Nat.{ℕ, _+_, _-_, _*_, _^_, _<_}
+use Prim.Native.Nat.{ℕ, _+_, _-_, _^_, _<_}
 use lib.Dec.{lit<}
 use lib.IntN.{pos, negsuc}
 use lib.Ieee.{Float, inf, fin, binary64, round}

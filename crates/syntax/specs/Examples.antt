@@ -1,15 +1,15 @@
 -- Worked examples, computed. Assumes nothing.
 use Prim.Native.Nat.{ℕ, zero, suc}
 use mathlib.Core.Path.{_≡_, refl}
-use mathlib.Core.Bool.{true, false}
+use mathlib.Core.Bool.{true}
 use mathlib.Core.List.{List, [], _∷_, _++_, map}
-use lib.ListN.{length, replicate}
+use lib.ListN.{replicate}
 use Rattle.text.specs.Bytes.{bytes, isBlank, isDigit, isLetter, startsName, continuesName, lowerCase}
 use Rattle.text.specs.Strings.{sameName, sameBytes}
-use Rattle.syntax.specs.Tree.{Literal, undefined, error, boolean, integer, real, string, Scope, own, other, Expr, literal, reference, unary, binary, conditional, Definition, Ad, size}
+use Rattle.syntax.specs.Tree.{undefined, error, boolean, integer, real, string, own, other, Expr, literal, reference, unary, binary, conditional, Definition, Ad, size}
 use Rattle.syntax.specs.Token.{word, constant, operator, symbol, Tokens, next, end, bad, frontOf, reserved, wordIn, nameFront, valueFrom, fractionOf, integerFront, realFront, numberFront, escapeOf, bodyOf, spellings, begins, symbolIn, frontToken, tokensFrom, tokens}
-use Rattle.syntax.specs.Grammar.{bindsOf, defined}
-use Rattle.syntax.specs.Reader.{Answer, accepted, denied, codeOf, Limits, conditionalAt, count, definitionsAt, adAt, parse, read}
+use Rattle.syntax.specs.Grammar.{defined}
+use Rattle.syntax.specs.Reader.{Answer, accepted, denied, Limits, conditionalAt, count, definitionsAt, adAt, parse, read}
 use Rattle.syntax.specs.Print.{digits, lastDigits, escaped, escapedAll, literalText, binaryText, unaryText, binds, referenceText, printed, definitionsText, printedAd, levelOf}
 use Rattle.syntax.specs.declared.Binary.the-variants.{Or, And, Equal, Is, Isnt, Less, Add, Subtract, Multiply}
 use Rattle.syntax.specs.declared.Unary.the-variants.{Not, Minus}

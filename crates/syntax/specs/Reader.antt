@@ -2,19 +2,18 @@
 -- token the order is 3, 7, 5, 4, 6, 8, 9': the first three are the token's own (`bad`), the others are tested here in that
 -- order. Assumes nothing.
 use Prim.Native.Nat.{ℕ, zero, suc, _+_, _*_}
-use mathlib.Core.Bool.{Bool, true, false}
+use mathlib.Core.Bool.{Bool}
 use mathlib.Core.List.{List, [], _∷_, _++_}
 use lib.ListN.{length}
 use lib.Dec.{ltb, leb, eqb}
 use Rattle.syntax.specs.Bounds.{textBytes, maxLevel, maxNodes, maxDefinitions}
-use Rattle.syntax.specs.Tree.{Literal, Scope, own, other, Expr, literal, reference, unary, binary, conditional, Definition, Ad, size}
+use Rattle.syntax.specs.Tree.{Literal, own, other, Expr, literal, reference, unary, binary, conditional, Ad, size}
 use Rattle.syntax.specs.Token.{Token, word, constant, operator, symbol, Tokens, next, end, bad, pick, tokens}
 use Rattle.syntax.specs.Grammar.{bindsOf, unaryToken, defined}
 use Rattle.syntax.specs.declared.Binary.{Binary}
 use Rattle.syntax.specs.declared.Binary.the-variants.{Or, And, Equal, NotEqual, Is, Isnt, Less, LessOrEqual, Greater, GreaterOrEqual, Add, Subtract, Multiply, Divide, Remainder}
 use Rattle.syntax.specs.declared.Unary.{Unary}
 use Rattle.syntax.specs.declared.Unary.the-variants.{Not, Plus, Minus}
-use Rattle.syntax.specs.declared.Symbol.{Symbol}
 use Rattle.syntax.specs.declared.Symbol.the-variants.{Exclamation, Question, Colon, OpenParenthesis, CloseParenthesis, OpenBracket, CloseBracket, Semicolon, Assign, Point, Other, Parent}
 
 -- What reading an expression gives: the expression and the tokens behind it, or a refusal's number and place: 'A refusal carries

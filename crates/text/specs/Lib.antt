@@ -1,3 +1,4 @@
 pub mod Bytes
 pub mod Strings
 pub mod Parts
+pub mod Laws

@@ -14,23 +14,23 @@ pub enum Order {
 pub fn is_blank(b: u8) -> bool
     ensures { λ r. ⌜ r ≡ isBlank b ⌝ }
 {
-    if b == 32 {
+    if b == b' ' {
         return true;
     }
-    if b == 9 {
+    if b == b'\t' {
         return true;
     }
-    if b == 13 {
+    if b == b'\r' {
         return true;
     }
-    b == 10
+    b == b'\n'
 }
 
 pub fn is_digit(b: u8) -> bool
     ensures { λ r. ⌜ r ≡ isDigit b ⌝ }
 {
-    if 48 <= b {
-        return b <= 57;
+    if b'0' <= b {
+        return b <= b'9';
     }
     false
 }
@@ -38,11 +38,11 @@ pub fn is_digit(b: u8) -> bool
 pub fn is_letter(b: u8) -> bool
     ensures { λ r. ⌜ r ≡ isLetter b ⌝ }
 {
-    if 97 <= b {
-        return b <= 122;
+    if b'a' <= b {
+        return b <= b'z';
     }
-    if 65 <= b {
-        return b <= 90;
+    if b'A' <= b {
+        return b <= b'Z';
     }
     false
 }
@@ -54,7 +54,7 @@ pub fn starts_name(b: u8) -> bool
     if is_letter(b) {
         return true;
     }
-    b == 95
+    b == b'_'
 }
 
 // A further byte of a Name.
@@ -71,8 +71,8 @@ pub fn continues_name(b: u8) -> bool
 pub fn lower(b: u8) -> u8
     ensures { λ r. ⌜ r ≡ lowerCase b ⌝ }
 {
-    if 65 <= b {
-        if b <= 90 {
+    if b'A' <= b {
+        if b <= b'Z' {
             return b + 32;
         }
         return b;

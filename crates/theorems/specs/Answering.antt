@@ -20,8 +20,9 @@ use Rattle.printer.specs.Prints.{Roomy, Stored, small, malformed, long, PrintsT
 use Rattle.printer.specs.declared.Printed.{Printed}
 use Rattle.printer.specs.declared.Printed.the-variants as printed
 use Rattle.matching.specs.Matching as M
-use Rattle.matching.specs.Matching.{Well, Matched, no-room, first-malformed, second-malformed, matches, tableWords, listWords}
-use Rattle.matching.specs.Laws.Wells.{formed-of}
+use Rattle.matching.specs.Matching.{Matched, no-room, first-malformed, second-malformed, matches, tableWords}
+use Rattle.admission.specs.Admission.{Well, listWords}
+use Rattle.admission.specs.Laws.Wells.{formed-of}
 use Rattle.matching.specs.declared.Outcome.{Outcome}
 use Rattle.matching.specs.declared.Outcome.the-variants.{Refused}
 use Rattle.theorems.specs.Existing.{match-exists}

@@ -4,17 +4,18 @@ use Prim.Native.Nat.{ℕ, _+_, _≤_, _<_}
 use native.Mathlib.Decide.{decLt}
 use native.Mathlib.Omega.{arith}
 use mathlib.Core.Path.{_≡_, refl, sym, ap, _∙_}
-use mathlib.Core.Bool.{Bool, true, false, cond, _||_}
+use mathlib.Core.Bool.{Bool, true, false, cond, _||_, true≢false, or-true}
 use mathlib.Core.List.{List, []}
 use lib.ListN.{length, take}
 use lib.Dec.{ltb}
+use borrow.Author.Tests.{le-ltb}
 use Rattle.ad.specs.Layout.{adWords, adBytesRoom, storedWords, storedBytes}
-use Rattle.graph.specs.Laws.Members.{ltb-no}
 use Rattle.links.specs.Pair.{Formed}
 use Rattle.reader.specs.declared.Answer.the-variants.{Accepted}
 use Rattle.reader.specs.Content.{Answered}
-use Rattle.matching.specs.Matching.{Match, Matched, no-room, first-malformed, second-malformed, matches, small, tableWords, listWords}
-use Rattle.matching.specs.Laws.Wells.{formed-of}
+use Rattle.matching.specs.Matching.{Match, Matched, no-room, first-malformed, second-malformed, matches, small, tableWords}
+use Rattle.admission.specs.Admission.{listWords}
+use Rattle.admission.specs.Laws.Wells.{formed-of}
 use Rattle.matching.specs.Laws.Exchange.{Exchanged, finished, unfinished, exchange}
 use Rattle.matching.specs.Laws.OneAnswer.{match-one}
 use Rattle.matching.specs.declared.Outcome.{Outcome}
@@ -68,7 +69,7 @@ exchange-finished {v} {b} {w} {c} {i} {j} {verdict = verdict} {verdict′} {p} {
 
 -- a budget that covers the steps finishes
 at-most : (verdict : Bool) (i j steps count budget : ℕ) → steps ≤ budget → FinishedAs verdict i j steps (answerAt verdict i j steps count budget)
-at-most verdict i j steps count budget h = (count, ap (λ (t : Bool). cond t (Unfinished budget count) (Finished verdict i j steps count)) (ltb-no h))
+at-most verdict i j steps count budget h = (count, ap (λ (t : Bool). cond t (Unfinished budget count) (Finished verdict i j steps count)) (le-ltb _ _ h))
 
 -- THE ANSWERS OF TWO ADS, as functions of them, no budget being given: exchanged, what every match answers with any budget
 pub answer-exchange : {v b w c : List ℕ} → Formed v → Formed w → (x : TheAnswer v b w c) (y : TheAnswer w c v b) →
@@ -79,13 +80,6 @@ answer-exchange f g x y =
     (at-most (y .verdict) (y .first-rank) (y .second-rank) (y .steps) (y .count) n (omega arith))
 
 -- ---- any memory
-
-apart : true ≡ false → ⊥
-apart y = let z : _≡_ {A = ℕ} 0 1 = cc in omega arith
-
-or-true : (p : Bool) → (p || true) ≡ true
-or-true true = refl
-or-true false = refl
 
 turn-room : (p q r s t : Bool) → (p || (q || (r || (s || t)))) ≡ (r || (s || (p || (q || t))))
 turn-room true q r s t = sym (ap (λ (z : Bool). r || z) (or-true s) ∙ or-true r)
@@ -102,18 +96,18 @@ small-turned v b w c table list table₂ list₂ e =
 pub matched-exchange : {v b w c : List ℕ} {budget : ℕ} {table list table′ list′ table₂ list₂ table₂′ list₂′ : List ℕ} {r s : Outcome} → short table list ≡ short table₂ list₂ →
     Matched v b w c budget table list table′ list′ r → Matched w c v b budget table₂ list₂ table₂′ list₂′ s → Turns r s
 matched-exchange same (no-room e a t l) (no-room e′ a′ t′ l′) = refused a a′
-matched-exchange {v} {b} {w} {c} {table = table} {list} {table₂ = table₂} {list₂} same (no-room e a t l) (first-malformed e′ n a′ t′ l′) = absurd (apart (sym e ∙ small-turned v b w c table list table₂ list₂ same ∙ e′))
-matched-exchange {v} {b} {w} {c} {table = table} {list} {table₂ = table₂} {list₂} same (no-room e a t l) (second-malformed e′ h n a′ t′ l′) = absurd (apart (sym e ∙ small-turned v b w c table list table₂ list₂ same ∙ e′))
-matched-exchange {v} {b} {w} {c} {table = table} {list} {table₂ = table₂} {list₂} same (no-room e a t l) (matches e′ h n values entries m t′ l′) = absurd (apart (sym e ∙ small-turned v b w c table list table₂ list₂ same ∙ e′))
-matched-exchange {v} {b} {w} {c} {table = table} {list} {table₂ = table₂} {list₂} same (first-malformed e n a t l) (no-room e′ a′ t′ l′) = absurd (apart (sym e′ ∙ sym (small-turned v b w c table list table₂ list₂ same) ∙ e))
+matched-exchange {v} {b} {w} {c} {table = table} {list} {table₂ = table₂} {list₂} same (no-room e a t l) (first-malformed e′ n a′ t′ l′) = absurd (true≢false (sym e ∙ small-turned v b w c table list table₂ list₂ same ∙ e′))
+matched-exchange {v} {b} {w} {c} {table = table} {list} {table₂ = table₂} {list₂} same (no-room e a t l) (second-malformed e′ h n a′ t′ l′) = absurd (true≢false (sym e ∙ small-turned v b w c table list table₂ list₂ same ∙ e′))
+matched-exchange {v} {b} {w} {c} {table = table} {list} {table₂ = table₂} {list₂} same (no-room e a t l) (matches e′ h n values entries m t′ l′) = absurd (true≢false (sym e ∙ small-turned v b w c table list table₂ list₂ same ∙ e′))
+matched-exchange {v} {b} {w} {c} {table = table} {list} {table₂ = table₂} {list₂} same (first-malformed e n a t l) (no-room e′ a′ t′ l′) = absurd (true≢false (sym e′ ∙ sym (small-turned v b w c table list table₂ list₂ same) ∙ e))
 matched-exchange same (first-malformed e n a t l) (first-malformed e′ n′ a′ t′ l′) = refused a a′
 matched-exchange same (first-malformed e n a t l) (second-malformed e′ h′ n′ a′ t′ l′) = refused a a′
 matched-exchange same (first-malformed e n a t l) (matches e′ h′ n′ values entries m t′ l′) = absurd (n n′)
-matched-exchange {v} {b} {w} {c} {table = table} {list} {table₂ = table₂} {list₂} same (second-malformed e h n a t l) (no-room e′ a′ t′ l′) = absurd (apart (sym e′ ∙ sym (small-turned v b w c table list table₂ list₂ same) ∙ e))
+matched-exchange {v} {b} {w} {c} {table = table} {list} {table₂ = table₂} {list₂} same (second-malformed e h n a t l) (no-room e′ a′ t′ l′) = absurd (true≢false (sym e′ ∙ sym (small-turned v b w c table list table₂ list₂ same) ∙ e))
 matched-exchange same (second-malformed e h n a t l) (first-malformed e′ n′ a′ t′ l′) = refused a a′
 matched-exchange same (second-malformed e h n a t l) (second-malformed e′ h′ n′ a′ t′ l′) = refused a a′
 matched-exchange same (second-malformed e h n a t l) (matches e′ h′ n′ values entries m t′ l′) = absurd (n h′)
-matched-exchange {v} {b} {w} {c} {table = table} {list} {table₂ = table₂} {list₂} same (matches e h n values entries m t l) (no-room e′ a′ t′ l′) = absurd (apart (sym e′ ∙ sym (small-turned v b w c table list table₂ list₂ same) ∙ e))
+matched-exchange {v} {b} {w} {c} {table = table} {list} {table₂ = table₂} {list₂} same (matches e h n values entries m t l) (no-room e′ a′ t′ l′) = absurd (true≢false (sym e′ ∙ sym (small-turned v b w c table list table₂ list₂ same) ∙ e))
 matched-exchange same (matches e h n values entries m t l) (first-malformed e′ n′ a′ t′ l′) = absurd (n′ n)
 matched-exchange same (matches e h n values entries m t l) (second-malformed e′ h′ n′ a′ t′ l′) = absurd (n′ h)
 matched-exchange {v} {b} {w} {c} same (matches e h n values entries m t l) (matches e′ h′ n′ values′ entries′ m′ t′ l′) =

@@ -8,16 +8,16 @@ use mathlib.Core.Bool.{Bool, cond}
 use mathlib.Core.List.{List}
 use lib.ListN.{length}
 use lib.Dec.{ltb}
-use Rattle.graph.specs.Laws.Members.{ltb-yes, ltb-no}
+use borrow.Author.Tests.{le-ltb, lt-ltb}
 use Rattle.graph.specs.Laws.Traversal.{list-unique}
 use Rattle.links.specs.Pair.{pairGraph, Formed}
 use Rattle.matching.specs.Matching.{Match}
-use Rattle.matching.specs.Laws.OneAnswer.{Same, match-one}
+use Rattle.matching.specs.Laws.OneAnswer.{Same, match-one, count-one}
 use Rattle.matching.specs.declared.Outcome.{Outcome}
 use Rattle.matching.specs.declared.Outcome.the-variants.{Finished, Unfinished}
 use Rattle.theorems.specs.Listing.{Done, match-list}
 use Rattle.theorems.specs.Laws.Making.{found}
-use Rattle.theorems.specs.Laws.Budgets.{match-budget, count-one}
+use Rattle.theorems.specs.Laws.Budgets.{match-budget}
 
 -- THE MATCH of two ads with a budget: there is one, and every other is the same
 pub record TheMatch (v b w c : List ℕ) (budget : ℕ) : Type 0 where
@@ -82,7 +82,7 @@ answer-exists v b w c f g = record {
         go : Dec (budget < length (m .order)) → r ≡ answerAt (top .verdict) (top .first-rank) (top .second-rank) (length (whole .is-match .order)) (whole .is-match .count) budget
         go (yes h) =
             let k : budget < length (whole .is-match .order) = let e = as-long in omega arith in
-            m .unfinished h ∙ ap (Unfinished budget) same-count ∙ sym (ap (λ (t : Bool). cond t (Unfinished budget (whole .is-match .count)) (Finished (top .verdict) (top .first-rank) (top .second-rank) (length (whole .is-match .order)) (whole .is-match .count))) (ltb-yes k))
+            m .unfinished h ∙ ap (Unfinished budget) same-count ∙ sym (ap (λ (t : Bool). cond t (Unfinished budget (whole .is-match .count)) (Finished (top .verdict) (top .first-rank) (top .second-rank) (length (whole .is-match .order)) (whole .is-match .count))) (lt-ltb _ _ k))
           where
             same-count : m .count ≡ whole .is-match .count
             same-count = count-one (pairGraph v b w c) (m .count) (whole .is-match .count) (m .counted) (whole .is-match .counted)
@@ -91,4 +91,4 @@ answer-exists v b w c f g = record {
             let few : length (m .order) ≤ budget = omega arith in
             let k : length (whole .is-match .order) ≤ budget = let e = as-long in omega arith in
             let s = whole .only (match-budget 2048 m few (let e = as-long in let z = short in omega arith)) in
-            sym (s .answers) ∙ top .answers ∙ sym (ap (λ (t : Bool). cond t (Unfinished budget (whole .is-match .count)) (Finished (top .verdict) (top .first-rank) (top .second-rank) (length (whole .is-match .order)) (whole .is-match .count))) (ltb-no k))
+            sym (s .answers) ∙ top .answers ∙ sym (ap (λ (t : Bool). cond t (Unfinished budget (whole .is-match .count)) (Finished (top .verdict) (top .first-rank) (top .second-rank) (length (whole .is-match .order)) (whole .is-match .count))) (le-ltb _ _ k))

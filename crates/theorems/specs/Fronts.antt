@@ -9,15 +9,16 @@ use mathlib.Core.List.{List}
 use lib.ListN.{length, take, drop, length-take}
 use lib.Seq.{take-at}
 use lib.Dec.{ltb}
+use borrow.Author.Tests.{le-ltb, lt-ltb}
 use Rattle.ad.specs.Layout.{adWords, adBytesRoom}
-use Rattle.graph.specs.Laws.Members.{ltb-yes, ltb-no}
 use Rattle.well_formed.specs.WellFormed.{Holds}
 use Rattle.well_formed.specs.Laws.Whole.{holds-long}
 use Rattle.printer.specs.Prints.{Roomy, Prints}
 use Rattle.printer.specs.declared.Printed.the-variants.{Text}
 use Rattle.reader.specs.declared.Answer.{Answer}
 use Rattle.reader.specs.Content.{Answered}
-use Rattle.matching.specs.Matching.{Well, Matched, no-room, first-malformed, second-malformed, matches, small}
+use Rattle.matching.specs.Matching.{Matched, no-room, first-malformed, second-malformed, matches, small}
+use Rattle.admission.specs.Admission.{Well}
 use Rattle.matching.specs.declared.Outcome.{Outcome}
 use Rattle.theorems.specs.Texts.{match-cast}
 use Rattle.theorems.specs.Printing.{ReadBack, print-then-read}
@@ -39,13 +40,13 @@ short-front n x y e = go (decLt (length x) n)
     go (yes h) =
         let k = same in
         let l : length y < n = omega (arith, length-take n x, length-take n y) in
-        ltb-yes h ∙ sym (ltb-yes l)
+        lt-ltb _ _ h ∙ sym (lt-ltb _ _ l)
     go (no h) =
         let k = same in
         let h′ : ¬ (length x < n) = h in
         let l : n ≤ length x = omega arith in
         let q : n ≤ length y = omega (arith, length-take n x, length-take n y) in
-        ltb-no l ∙ sym (ltb-no q)
+        le-ltb _ _ l ∙ sym (le-ltb _ _ q)
 
 well-front : {w b w₁ b₁ : List ℕ} → SameFront w b w₁ b₁ → Well w b → Well w₁ b₁
 well-front {b = b} {w₁} s (a, h) = (a, subst (λ (x : List ℕ). Holds (take adWords w₁) x a) (s .bytes) (subst (λ (x : List ℕ). Holds x (take adBytesRoom b) a) (s .words) h))

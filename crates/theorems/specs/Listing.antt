@@ -16,7 +16,7 @@ use Rattle.links.specs.Laws.Counting.{nodes-few}
 use Rattle.links.specs.Laws.Numbering.{pair-size}
 use Rattle.links.specs.Laws.Soundness.{pair-sound}
 use Rattle.matching.specs.Matching.{Match, Matched, no-room, first-malformed, second-malformed, matches}
-use Rattle.matching.specs.Laws.Wells.{formed-of}
+use Rattle.admission.specs.Laws.Wells.{formed-of}
 use Rattle.matching.specs.declared.Outcome.{Outcome}
 use Rattle.matching.specs.declared.Outcome.the-variants.{Refused, Finished, Unfinished}
 

@@ -69,7 +69,8 @@ use Rattle.links.specs.Pair.{numbered, requirements, rank, pairGraph, Formed}
 use Rattle.dependency.specs.Traversal.{Traversed}
 use Rattle.valuation.specs.Gives.{Gives}
 use Rattle.evaluation.specs.Evaluation.{ruleAt, seen, needed, entries, Stepped, RunTo}
-use Rattle.matching.specs.Matching.{isTrue, rankOf, Match, small, Well, Matched}
+use Rattle.matching.specs.Matching.{isTrue, rankOf, Match, small, Matched}
+use Rattle.admission.specs.Admission.{Well}
 use Rattle.matching.specs.Laws.Exchange.{Exchanged}
 use Rattle.matching.specs.Laws.OneAnswer as matching
 use Rattle.matching.specs.Laws.Running as running

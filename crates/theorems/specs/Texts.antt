@@ -13,7 +13,8 @@ use Rattle.printer.specs.Prints.{Roomy}
 use Rattle.reader.specs.declared.Answer.{Answer}
 use Rattle.reader.specs.declared.Answer.the-variants.{Accepted}
 use Rattle.reader.specs.Content.{Answered}
-use Rattle.matching.specs.Matching.{Match, Matched, no-room, first-malformed, second-malformed, matches, tableWords, listWords}
+use Rattle.matching.specs.Matching.{Match, Matched, no-room, first-malformed, second-malformed, matches, tableWords}
+use Rattle.admission.specs.Admission.{listWords}
 use Rattle.matching.specs.declared.Outcome.{Outcome}
 use Rattle.matching.specs.declared.Outcome.the-variants.{Refused}
 use Rattle.acceptance.specs.Acceptance.{read-matches}

@@ -1,6 +1,6 @@
 // Values of six kinds, and a String's bytes.
 ghost use mathlib.Core.Path.{_≡_};
-ghost use mathlib.Core.Bool.{true, false, cond};
+ghost use mathlib.Core.Bool.{cond};
 ghost use lib.ListN.{take, drop};
 ghost use Rattle.values.specs.Values.{bytesAt, PartFrom};
 

@@ -8,6 +8,7 @@ use mathlib.Core.List.{List, [], _∷_, _++_}
 use lib.ListN.{length, getD, length-append}
 use lib.Dec.{ltb, leb}
 use borrow.Author.Tests.{ltb-true, leb-true, ne-eqb, le-leb, lt-leb}
+use Rattle.text.specs.Laws.Booleans.{and-left, and-right}
 use Rattle.syntax.specs.Bounds.{maxNodes}
 use Rattle.text.specs.Bytes.{startsName, continuesName}
 use Rattle.syntax.specs.Tree.{Definition, Ad, size, nodes}
@@ -18,7 +19,6 @@ use Rattle.ad.specs.Layout.{exprBytes, adBytes}
 use Rattle.ad.specs.Stored.{offsetAt, lengthAt, rootAt, bytesAt}
 use Rattle.ad.specs.Laws.Content.{size-some}
 use Rattle.well_formed.specs.Inner.Decode.{WalkOk, Room, all, none, standsAt, entryFits, adAt, rowsLength, SameAd, RowsRoom, RowsOk, rowBefore, RowsSmall}
-use Rattle.well_formed.specs.Laws.Shapes.{and-left, and-right}
 use Rattle.well_formed.specs.Laws.Prints.{rows-one, rows-short}
 use Rattle.well_formed.specs.Laws.Definitions.{Table, AllAd, ad-sound}
 use Rattle.well_formed.specs.declared.Rows.{Rows}

@@ -9,6 +9,7 @@ use lib.ListN.{length, take, drop, length-take, length-drop}
 use lib.Seq.{take-all}
 use lib.Dec.{ltb, leb, eqb}
 use borrow.Author.Tests.{ltb-true, leb-true, eqb-true, ne-eqb}
+use Rattle.text.specs.Laws.Booleans.{and-left, and-right}
 use Rattle.text.specs.Bytes.{bytes}
 use Rattle.syntax.specs.Tree.{Literal, undefined, error, boolean, integer, real, string, own, other, literal, reference}
 use Rattle.syntax.specs.Print.{decimal, literalText, referenceText, binds, printed, levelOf}
@@ -16,7 +17,6 @@ use Rattle.lexemes.specs.Inner.Lexeme.{every, inString, isName, isString, isRea
 use Rattle.ad.specs.Layout.{literalBytes, exprBytes}
 use Rattle.ad.specs.Stored.{kindAt, operandAt, bytesAt}
 use Rattle.well_formed.specs.Inner.Decode.{Found, got, bad, test, keywordFits, booleanFits, integerFits, standsAt, leafOf, leafAt, Same, walkIf, plainWalk}
-use Rattle.well_formed.specs.Laws.Shapes.{and-left, and-right}
 use Rattle.well_formed.specs.declared.Walk.{Walk}
 use Rattle.well_formed.specs.declared.Walk.the-variants.{Tree, Bad}
 

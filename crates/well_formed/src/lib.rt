@@ -6,13 +6,15 @@ ghost use mathlib.Core.Bool.{cond, _&&_};
 ghost use Prim.Native.Nat.{_+_, _-_, _*_, _≤_, _<_, max};
 ghost use lib.ListN.{length};
 ghost use lib.Dec.{ltb, eqb};
+ghost use Rattle.syntax.specs.Bounds.{maxDefinitions, maxNodes};
+ghost use Rattle.ad.specs.Layout.{adWords, adBytesRoom};
 ghost use Rattle.syntax.specs.Tree.{real, string};
 ghost use Rattle.syntax.specs.Print.{decimal, literalText, binaryText};
 ghost use Rattle.lexemes.specs.Inner.Lexeme.{every, isName, isString, isReal};
-ghost use Rattle.ad.specs.Stored.{bytesAt, binaryOf};
+ghost use Rattle.ad.specs.Stored.{bytesAt};
 ghost use Rattle.well_formed.specs.declared.Walk.the-variants.{Tree};
 ghost use Rattle.well_formed.specs.WellFormed.{AnswersRoom, Answers};
-ghost use Rattle.well_formed.specs.Inner.Decode.{oneFits, twoFits, threeFits, shapeOf, shapeAt, keywordFits, booleanFits, integerFits, standsAt, leafAt, treeAt, Same, WalkOk, entryFits, adAt, SameAd, newFrom, isZero, zeroBehind, walkIf, plainWalk, unaryWalk, binaryWalk, conditionalWalk, Room, rowBefore, RowsSmall, RowsRoom, RowsOk};
+ghost use Rattle.well_formed.specs.Inner.Decode.{oneFits, twoFits, threeFits, shapeOf, shapeAt, keywordFits, booleanFits, integerFits, standsAt, leafAt, Same, WalkOk, entryFits, newFrom, isZero, zeroBehind, walkIf, plainWalk, unaryWalk, binaryWalk, conditionalWalk, Room, rowBefore, RowsSmall, RowsRoom, RowsOk};
 
 // What the nodes of a run are: a leaf, or an operator with the last nodes of its operands.
 pub enum Shape {
@@ -101,7 +103,7 @@ fn shape_of(s: usize, i: usize, k: u64, x: usize, y: usize, z: usize) -> Shape
 }
 
 fn shape_at(words: &[u64], s: usize, i: usize) -> Shape
-    requires { ⌜ (i < 1024) × (4864 ≤ length (now words)) ⌝ }
+    requires { ⌜ (i < maxNodes) × (adWords ≤ length (now words)) ⌝ }
     ensures { λ r. ⌜ r ≡ shapeAt (now (words .entry)) s i ⌝ }
 {
     let k = ad::kind(words, i);
@@ -157,7 +159,7 @@ fn stands(bytes: &[u8], o: usize, x: usize, y: usize) -> bool
 }
 
 fn string_walk(bytes: &[u8], o: usize, x: usize, y: usize) -> Walk
-    requires { ⌜ (o ≤ 16384) × (length (now bytes) ≡ 16384) ⌝ }
+    requires { ⌜ (o ≤ adBytesRoom) × (length (now bytes) ≡ adBytesRoom) ⌝ }
     ensures { λ r. ⌜ r ≡ walkIf (standsAt (now (bytes .entry)) o x y && isString (bytesAt (now (bytes .entry)) o y)) (Tree (o + y) 8 0 (length (literalText (string (bytesAt (now (bytes .entry)) o y))))) ⌝ }
 {
     let part = ad::part(bytes, o, y);
@@ -169,7 +171,7 @@ fn string_walk(bytes: &[u8], o: usize, x: usize, y: usize) -> Walk
 
 // A reference, whose name has n bytes before it.
 fn name_walk(bytes: &[u8], o: usize, x: usize, y: usize, n: usize) -> Walk
-    requires { ⌜ (o ≤ 16384) × (length (now bytes) ≡ 16384) × (n ≤ 6) ⌝ }
+    requires { ⌜ (o ≤ adBytesRoom) × (length (now bytes) ≡ adBytesRoom) × (n ≤ 6) ⌝ }
     ensures { λ r. ⌜ r ≡ walkIf (standsAt (now (bytes .entry)) o x y && isName (bytesAt (now (bytes .entry)) o y)) (Tree (o + y) 8 0 (n + y)) ⌝ }
 {
     let part = ad::part(bytes, o, y);
@@ -181,7 +183,7 @@ fn name_walk(bytes: &[u8], o: usize, x: usize, y: usize, n: usize) -> Walk
 
 // The literal or reference at node i, whose bytes, if it has some, begin at o.
 fn leaf_walk(words: &[u64], bytes: &[u8], i: usize, o: usize) -> Walk
-    requires { ⌜ (i < 1024) × (4864 ≤ length (now words)) × (o ≤ 16384) × (length (now bytes) ≡ 16384) ⌝ }
+    requires { ⌜ (i < maxNodes) × (adWords ≤ length (now words)) × (o ≤ adBytesRoom) × (length (now bytes) ≡ adBytesRoom) ⌝ }
     ensures { λ r. ⌜ Same o (leafAt (now (words .entry)) (now (bytes .entry)) i o) r ⌝ }
 {
     let x = ad::operand(words, i, 0);
@@ -321,7 +323,7 @@ fn visit(words: &[u64], bytes: &[u8], s: usize, i: usize, o: usize) -> Walk
 
 // Whether definition j's name begins at o, and its nodes at n.
 fn entry_fits(words: &[u64], bytes: &[u8], j: usize, n: usize, o: usize) -> bool
-    requires { ⌜ (j < 256) × (4864 ≤ length (now words)) ⌝ }
+    requires { ⌜ (j < maxDefinitions) × (adWords ≤ length (now words)) ⌝ }
     ensures { λ r. ⌜ r ≡ entryFits (now (words .entry)) (now (bytes .entry)) j n o ⌝ }
 {
     let len = ad::name_length(words, j);
@@ -331,7 +333,7 @@ fn entry_fits(words: &[u64], bytes: &[u8], j: usize, n: usize, o: usize) -> bool
         stands(bytes, o, ad::offset(words, j), len),
         lexemes::is_name(part),
     );
-    both(named, both(n <= root, root < 1024))
+    both(named, both(n <= root, root < syntax::NODES))
 }
 
 // A definition whose name has this many bytes and whose expression prints this many, before others.
@@ -350,7 +352,7 @@ fn rows_from(words: &[u64], bytes: &[u8], j: usize, n: usize, o: usize) -> Rows
     requires { ⌜ RowsRoom (now words) (now bytes) j n o ⌝ }
     ensures { λ r. ⌜ RowsOk (now (words .entry)) (now (bytes .entry)) j n o r ⌝ }
 {
-    if 256 <= j {
+    if syntax::DEFINITIONS <= j {
         return Rows::Ads(j, n, o, 0);
     }
     let len = ad::name_length(words, j);
@@ -374,7 +376,7 @@ fn rows_from(words: &[u64], bytes: &[u8], j: usize, n: usize, o: usize) -> Rows
 
 // Whether the names of d definitions are distinct.
 fn distinct(words: &[u64], bytes: &[u8], d: usize) -> bool
-    requires { ⌜ (d ≤ 256) × (4864 ≤ length (now words)) ⌝ }
+    requires { ⌜ (d ≤ maxDefinitions) × (adWords ≤ length (now words)) ⌝ }
     ensures { λ r. ⌜ r ≡ newFrom (now (words .entry)) (now (bytes .entry)) 0 d ⌝ }
 {
     let mut j = 0;
@@ -433,12 +435,12 @@ fn zero_bytes(bytes: &[u8]) -> bool
 
 // Whether all is zero behind d definitions, n nodes and k bytes.
 fn zero_behind(words: &[u64], bytes: &[u8], d: usize, n: usize, k: usize) -> bool
-    requires { ⌜ (d ≤ 256) × (n ≤ 1024) × (k ≤ 16384) × (length (now words) ≡ 4864) × (length (now bytes) ≡ 16384) ⌝ }
+    requires { ⌜ (d ≤ maxDefinitions) × (n ≤ maxNodes) × (k ≤ adBytesRoom) × (length (now words) ≡ adWords) × (length (now bytes) ≡ adBytesRoom) ⌝ }
     ensures { λ r. ⌜ r ≡ zeroBehind (now (words .entry)) (now (bytes .entry)) d n k ⌝ }
 {
     let node = 4 * n;
-    let entry = 4096 + 3 * d;
-    let nodes = zero_words(&words[node..4096]);
+    let entry = ad::NODE_WORDS + 3 * d;
+    let nodes = zero_words(&words[node..ad::NODE_WORDS]);
     let entries = zero_words(&words[entry..]);
     both(nodes, both(entries, zero_bytes(&bytes[k..])))
 }
@@ -452,7 +454,7 @@ fn print_length(d: usize, t: usize) -> usize
 
 // The check over exactly the room of an ad.
 fn check_room(words: &[u64], bytes: &[u8]) -> Checked
-    requires { ⌜ (length (now words) ≡ 4864) × (length (now bytes) ≡ 16384) ⌝ }
+    requires { ⌜ (length (now words) ≡ adWords) × (length (now bytes) ≡ adBytesRoom) ⌝ }
     ensures { λ r. ⌜ AnswersRoom (now (words .entry)) (now (bytes .entry)) r ⌝ }
 {
     match rows_from(words, bytes, 0, 0, 0) {

@@ -6,8 +6,8 @@ use native.Mathlib.Nat.{add-zero}
 use native.Mathlib.Omega.{arith}
 use mathlib.Core.Path.{_≡_, refl, sym, _∙_, ap, subst}
 use mathlib.Core.List.{List, [], _∷_, _++_}
-use lib.ListN.{length, getD, set, drop, length-set, length-append, drop-of-length-le}
-use lib.Seq.{sets, length-sets, set-out}
+use lib.ListN.{length, getD, set, drop, length-append, drop-of-length-le}
+use lib.Seq.{sets, set-out}
 use borrow.Author.Tests.{eq-eqb, ne-eqb}
 use Rattle.text.specs.Bytes.{bytes}
 use Rattle.text.specs.Parts.{drop-one, sets-append}
@@ -27,12 +27,6 @@ puts-join {t} {u} {o} {at = at} x y = record {
 
 pub puts-as : {t u o o₁ : List ℕ} {at r : ℕ} → t ≡ u → Puts t o at o₁ r → Puts u o at o₁ r
 puts-as {o = o} {o₁} {at} {r} e x = subst (λ (l : List ℕ). Puts l o at o₁ r) e x
-
-pub puts-length : {t o o₁ : List ℕ} {at r : ℕ} → Puts t o at o₁ r → length o₁ ≡ length o
-puts-length {t} {o} {at = at} x = ap length (x .written) ∙ length-sets o at t
-
-pub set-length : (o o₁ : List ℕ) (at b : ℕ) → o₁ ≡ set o at b → length o₁ ≡ length o
-set-length o o₁ at b e = ap length e ∙ length-set o at b
 
 pub outside : (o : List ℕ) (at b : ℕ) → length o ≤ at → o ≡ set o at b
 outside o at b h = sym (set-out o at b h)

@@ -61,7 +61,7 @@ pub fn put_real(v: u64, places: u64, out: &mut [u8], at: usize) -> usize
 {
     if places == 0 {
         let m = put_decimal(v, out, at);
-        put_byte(out, m, 46);
+        put_byte(out, m, b'.');
         return m + 1;
     }
     let m = put_real(v / 10, places - 1, out, at);
@@ -74,16 +74,16 @@ fn put_escaped(b: u8, out: &mut [u8], at: usize) -> usize
     requires { ⌜ Near at (escaped b) ⌝ }
     ensures { λ r. ⌜ Puts (escaped b) (now (out .entry)) at (now (out .exit)) r ⌝ }
 {
-    if b == 34 {
+    if b == b'"' {
         return put(b"\\\"", out, at);
     }
-    if b == 92 {
+    if b == b'\\' {
         return put(b"\\\\", out, at);
     }
-    if b == 10 {
+    if b == b'\n' {
         return put(b"\\n", out, at);
     }
-    if b == 9 {
+    if b == b'\t' {
         return put(b"\\t", out, at);
     }
     put_byte(out, at, b);
@@ -95,14 +95,14 @@ pub fn put_string(s: &[u8], out: &mut [u8], at: usize) -> usize
     requires { ⌜ Near at (literalText (string (now s))) ⌝ }
     ensures { λ r. ⌜ Puts (literalText (string (now (s .entry)))) (now (out .entry)) at (now (out .exit)) r ⌝ }
 {
-    put_byte(out, at, 34);
+    put_byte(out, at, b'"');
     let mut i = 0;
     let mut m = at + 1;
     while i < s.len() {
         m = put_escaped(s[i], out, m);
         i += 1;
     }
-    put_byte(out, m, 34);
+    put_byte(out, m, b'"');
     m + 1
 }
 
@@ -147,8 +147,8 @@ pub fn put_binary(j: Binary, out: &mut [u8], at: usize) -> usize
     requires { ⌜ at + length (binaryText j) + 2 ≤ 1000000 ⌝ }
     ensures { λ r. ⌜ Puts (32 ∷ (binaryText j ++ 32 ∷ [])) (now (out .entry)) at (now (out .exit)) r ⌝ }
 {
-    put_byte(out, at, 32);
+    put_byte(out, at, b' ');
     let m = put_operator(j, out, at + 1);
-    put_byte(out, m, 32);
+    put_byte(out, m, b' ');
     m + 1
 }

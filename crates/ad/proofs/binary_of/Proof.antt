@@ -1,11 +1,7 @@
 use Rattle.ad.specs.Stored.{binaryOf}
 use Rattle.ad.proofs.Shapes.{no-binary}
-use borrow.Author.Needs.{needs}
-use native.Mathlib.Omega.{arith}
 use Rattle.ad.proofs.binary_of.Statement.{statement}
 use Rattle.ad.proofs.binary_of.Tie as tie
-use Rattle.ad.proofs.binary_of.Reads as reads
-use Rattle.ad.proofs.binary_of.Lts as lts
 
 returns : tie.Need-returns
 unfolding binaryOf

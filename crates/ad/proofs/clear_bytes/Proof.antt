@@ -1,15 +1,13 @@
 use borrow.Author.Needs.{needs}
 use native.Mathlib.Omega.{arith}
 use borrow.Author.Fill.{fill-none, fill-more}
-use mathlib.Core.Path.{_≡_, refl, sym, _∙_, ap}
+use mathlib.Core.Path.{_≡_, refl, _∙_}
 use mathlib.Core.List.{_++_}
-use Prim.Native.Nat.{_+_, _-_, _≤_, _<_}
+use Prim.Native.Nat.{_-_, _≤_, _<_}
 use lib.ListN.{length, drop, replicate, length-set}
 use Rattle.ad.proofs.Laws.{cleared}
 use Rattle.ad.proofs.clear_bytes.Statement.{statement}
 use Rattle.ad.proofs.clear_bytes.Tie as tie
-use Rattle.ad.proofs.clear_bytes.Reads as reads
-use Rattle.ad.proofs.clear_bytes.Lts as lts
 
 abbrev Inv-loop : tie.InvT-loop
 Inv-loop bytes₀ i₀ bytes i =

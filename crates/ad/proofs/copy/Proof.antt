@@ -1,14 +1,12 @@
 use borrow.Author.Needs.{needs}
 use native.Mathlib.Omega.{arith}
-use mathlib.Core.Path.{_≡_, refl, sym, _∙_, ap}
-use Prim.Native.Nat.{_+_, _-_, _≤_, _<_}
+use mathlib.Core.Path.{_≡_, refl, _∙_}
+use Prim.Native.Nat.{_+_, _-_, _≤_}
 use lib.ListN.{length, length-set}
 use lib.Seq.{sets, slice}
 use Rattle.ad.proofs.Laws.{copy-step, copy-end}
 use Rattle.ad.proofs.copy.Statement.{statement}
 use Rattle.ad.proofs.copy.Tie as tie
-use Rattle.ad.proofs.copy.Reads as reads
-use Rattle.ad.proofs.copy.Lts as lts
 
 abbrev Inv-loop : tie.InvT-loop
 Inv-loop text p q bytes₀ k i₀ j₀ bytes i j =

@@ -1,14 +1,11 @@
 use borrow.Author.Needs.{needs}
 use native.Mathlib.Omega.{arith}
-use mathlib.Core.Path.{_≡_, refl, sym, _∙_}
-use Prim.Native.Nat.{_+_, _-_, _≤_}
+use mathlib.Core.Path.{_≡_, sym, _∙_}
+use Prim.Native.Nat.{_-_, _≤_}
 use Rattle.ad.specs.Stored.{definedIn}
 use Rattle.ad.proofs.Laws.{look-more, look-found, look-end, look-all}
 use Rattle.ad.proofs.defined.Statement.{statement}
 use Rattle.ad.proofs.defined.Tie as tie
-use Rattle.ad.proofs.defined.Reads as reads
-use Rattle.ad.proofs.defined.Lts as lts
-use Rattle.ad.proofs.has_name.Reads as has-name-reads
 
 abbrev Inv-loop : tie.InvT-loop
 Inv-loop words bytes d name j₀ j = (j ≤ d) × (definedIn words bytes name j (d - j) ≡ definedIn words bytes name 0 d)

@@ -1,12 +1,6 @@
 use borrow.Author.Needs.{needs}
 use Rattle.ad.proofs.has_name.Statement.{statement}
 use Rattle.ad.proofs.has_name.Tie as tie
-use Rattle.ad.proofs.has_name.Reads as reads
-use Rattle.ad.proofs.has_name.Lts as lts
-use Rattle.ad.proofs.name_length.Reads as name-length-reads
-use Rattle.ad.proofs.offset.Reads as offset-reads
-use Rattle.ad.proofs.part.Reads as part-reads
-use Rattle.text.proofs.same_name.Reads as same-name-reads
 
 returns : tie.Need-returns
 returns c =

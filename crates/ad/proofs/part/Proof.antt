@@ -8,8 +8,6 @@ use Rattle.ad.proofs.Laws.{cut-none, cut-all}
 use borrow.Author.Needs.{needs}
 use Rattle.ad.proofs.part.Statement.{statement}
 use Rattle.ad.proofs.part.Tie as tie
-use Rattle.ad.proofs.part.Reads as reads
-use Rattle.ad.proofs.part.Lts as lts
 
 returns : tie.Need-returns
 returns c =

@@ -1,11 +1,7 @@
 use borrow.Author.Tests.{ne-eqb}
 use Rattle.ad.specs.Stored.{unaryOf}
-use borrow.Author.Needs.{needs}
-use native.Mathlib.Omega.{arith}
 use Rattle.ad.proofs.unary_of.Statement.{statement}
 use Rattle.ad.proofs.unary_of.Tie as tie
-use Rattle.ad.proofs.unary_of.Reads as reads
-use Rattle.ad.proofs.unary_of.Lts as lts
 
 returns : tie.Need-returns
 unfolding unaryOf

@@ -1,10 +1,10 @@
 -- Stored content determines the tree. Assumes nothing.
-use Prim.Native.Nat.{ℕ, zero, suc, _+_, _-_, _*_, _≤_, _<_}
+use Prim.Native.Nat.{ℕ, zero, suc, _+_, _-_, _*_, _≤_}
 use native.Mathlib.Omega.{arith}
-use mathlib.Core.Path.{_≡_, refl, sym, _∙_, ap, subst}
+use mathlib.Core.Path.{_≡_, refl, sym, _∙_, ap}
 use mathlib.Core.Bool.{Bool, true, false, cond}
-use mathlib.Core.List.{List, [], _∷_, _++_, append-assoc, head-eq-of-cons-eq, tail-eq-of-cons-eq, nil≢cons, cons≢nil}
-use lib.ListN.{length, getD, take, drop, replicate, length-append, length-replicate, getD-replicate}
+use mathlib.Core.List.{List, [], _∷_, _++_, append-assoc, head-eq-of-cons-eq, tail-eq-of-cons-eq}
+use lib.ListN.{length, getD, replicate, length-append, length-replicate}
 use Rattle.syntax.specs.Bounds.{maxNodes}
 use Rattle.syntax.specs.Tree.{Literal, undefined, error, boolean, integer, real, string, Scope, own, other, Expr, literal, reference, unary, binary, conditional, Definition, Ad, size, nodes}
 use Rattle.syntax.specs.declared.Binary.{Binary}
@@ -352,6 +352,14 @@ pub length-ad : (n o : ℕ) (a : Ad) → length (adNodes n o a) ≡ 4 * nodes a
 unfolding adNodes nodes
 length-ad n o [] = refl
 length-ad n o (d ∷ ds) = simp length-append (omega (arith, length-nodes n (o + length (d .name)) (d .expression), length-ad (nodeBehind n d) (byteBehind o d) ds))
+
+pub length-entries : (n o : ℕ) (a : Ad) → length (adDefinitions n o a) ≡ 3 * length a
+unfolding adDefinitions
+length-entries n o [] = refl
+length-entries n o (d ∷ ds) = omega (arith, length-entries (nodeBehind n d) (byteBehind o d) ds)
+
+pub padded-length : (n : ℕ) (xs : List ℕ) → length xs ≤ n → length (xs ++ replicate (n - length xs) 0) ≡ n
+padded-length n xs h = omega (arith, length-append xs (replicate (n - length xs) 0), length-replicate {A = ℕ} (n - length xs) 0)
 
 -- ---- THE THEOREM
 

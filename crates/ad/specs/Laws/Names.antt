@@ -1,11 +1,11 @@
 -- The names of a stored ad, found again. Assumes nothing.
-use Prim.Native.Nat.{ℕ, zero, suc, _+_, _*_}
+use Prim.Native.Nat.{ℕ, _+_, _*_}
 use native.Mathlib.Omega.{arith}
 use mathlib.Core.Path.{_≡_, refl, sym, _∙_, ap}
 use mathlib.Core.List.{List, [], _∷_, _++_, append-assoc}
 use lib.ListN.{length, getD, take, drop}
 use lib.Seq.{take-append-seam, drop-append-seam, drop-drop, getD-drop}
-use Rattle.syntax.specs.Tree.{Definition, Ad, size}
+use Rattle.syntax.specs.Tree.{Ad, size}
 use Rattle.syntax.specs.Grammar.{defined}
 use Rattle.ad.specs.Layout.{exprBytes, adDefinitions, adBytes}
 use Rattle.ad.specs.Stored.{definedIn}

@@ -1,5 +1,5 @@
 -- `arithmetic::compute` meets its contract. Assumes nothing.
-use mathlib.Core.Path.{_≡_, sym, ap, ap₂, _∙_}
+use mathlib.Core.Path.{ap, _∙_}
 use Rattle.values.specs.declared.Value.the-variants.{Real}
 use Rattle.arithmetic.proofs.Pairs.{arithmetic-of}
 use borrow.Author.Needs.{needs}

@@ -1,5 +1,4 @@
 -- Each operation on Reals is rounded once. Assumes nothing.
-use mathlib.Core.Bool.{not}
 use lib.Ieee.{binary64}
 use Rattle.rounding.specs.Laws.Operations.{add-nearest, sub-nearest, mul-nearest, div-nearest, rem-nearest}
 use Rattle.arithmetic.specs.declared.Arithmetic.the-variants.{Sum, Difference, Product, Quotient, Remainder}

@@ -1,6 +1,3 @@
-use mathlib.Core.Path.{ap}
-use mathlib.Core.List.{[], _∷_}
-use Prim.Native.Nat.{ℕ}
 use borrow.Author.Needs.{needs}
 use Rattle.c_matching.proofs.outcome_numbers.Statement.{statement}
 use Rattle.c_matching.proofs.outcome_numbers.Tie as tie

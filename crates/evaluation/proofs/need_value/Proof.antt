@@ -1,11 +1,6 @@
 use denote.Ref.{now}
-use mathlib.Core.List.{[]}
 use Prim.Native.Nat.{ℕ, _<_, _≤_}
-use lib.ListN.{length}
 use mathlib.Core.Path.{subst}
-use native.Mathlib.Omega.{arith}
-use Rattle.graph.specs.Members.{numbers}
-use Rattle.graph.specs.Transition.{led}
 use Rattle.links.specs.Pair.{pairGraph}
 use Rattle.links.specs.Laws.Numbering.{stands-small}
 use Rattle.slots.specs.Packed.{slotAt}

@@ -1,15 +1,16 @@
 -- The values of a node's needs, and a step and a run over packed words as those over slots. Assumes nothing.
-use Prim.Native.Nat.{ℕ, zero, suc, _+_, _-_, _*_, _≤_, _<_, min}
+use Prim.Native.Nat.{ℕ, zero, suc, _+_, _-_, _*_, _≤_, _<_}
 use native.Mathlib.Decide.{ℕ-discrete}
 use native.Mathlib.Omega.{arith}
-use mathlib.Core.Path.{_≡_, refl, sym, ap, _∙_, subst, fun-ext}
+use mathlib.Core.Path.{_≡_, refl, sym, ap, _∙_, fun-ext}
 use mathlib.Core.Logic.{_≢_}
-use mathlib.Core.Bool.{Bool, true, false, cond}
+use mathlib.Core.Bool.{true, false}
 use mathlib.Core.List.{List, [], _∷_, _++_, map}
 use lib.ListN.{length, getD, take, drop, set, length-drop, length-set}
-use lib.Seq.{take-suc, take-all, getD-drop, length-take-le}
-use Rattle.graph.specs.Members.{numbers, raised}
-use Rattle.graph.specs.Laws.Members.{eqb-yes, eqb-no, put-same, put-other}
+use lib.Seq.{take-suc, take-all, getD-drop}
+use borrow.Author.Tests.{eq-eqb, ne-eqb}
+use Rattle.graph.specs.Members.{numbers}
+use Rattle.graph.specs.Laws.Members.{put-same, put-other}
 use Rattle.graph.specs.Graph.{Graph}
 use Rattle.graph.specs.Transition.{led}
 use Rattle.values.specs.declared.Value.{Value}
@@ -20,8 +21,8 @@ use Rattle.slots.specs.Packed.{kindWord, loadWord, slotAt, putAt, Stored}
 use Rattle.nodes.specs.declared.Node.{Node}
 use Rattle.nodes.specs.Nodes.{applied, valueIn}
 use Rattle.links.specs.Laws.Soundness.{both-low, both-high}
-use Rattle.valuation.specs.Run.{stepTable, steps, runFrom}
-use Rattle.evaluation.specs.Evaluation.{nodeFrom, nodeAt, ruleAt, seen, needed, entries, stepWords, stepsWords, Stepped, RunTo}
+use Rattle.valuation.specs.Run.{stepTable, steps}
+use Rattle.evaluation.specs.Evaluation.{nodeFrom, nodeAt, ruleAt, seen, needed, stepWords, stepsWords, Stepped, RunTo}
 
 -- ---- the values of needs
 
@@ -40,11 +41,11 @@ value-beyond f (y ∷ l) (suc i) h = value-beyond f l i (let k : suc (length l) 
 module _ (G : Graph) (ta fl : List ℕ) (x i : ℕ) (f : ℕ → Value) where
   needed-plain : getD fl x 0 ≢ 1 → needed G ta fl x ≡ led G (numbers ta) x
   unfolding needed
-  needed-plain n = rw (eqb-no n) refl
+  needed-plain n = rw (ne-eqb _ _ n) refl
 
   pub need-circular : getD fl x 0 ≡ 1 → Undefined ≡ valueIn (map f (needed G ta fl x)) i
   unfolding needed valueIn
-  need-circular e = rw (eqb-yes e) refl
+  need-circular e = rw (eq-eqb _ _ e) refl
 
   pub need-found : {y : ℕ} {r : Value} → getD fl x 0 ≢ 1 → i < length (led G (numbers ta) x) → y ≡ getD (led G (numbers ta) x) i 0 → r ≡ f y →
       r ≡ valueIn (map f (needed G ta fl x)) i

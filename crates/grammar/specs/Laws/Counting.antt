@@ -5,11 +5,11 @@ use mathlib.Core.Path.{_≡_, refl, sym, _∙_, ap, subst}
 use mathlib.Core.Bool.{Bool, true, false, _||_, true≢false}
 use mathlib.Core.List.{List, [], _∷_, _++_, append-assoc, append-nil}
 use lib.ListN.{length, length-append}
+use Rattle.text.specs.Laws.Booleans.{neither, or-right}
 use Rattle.text.specs.Strings.{sameName}
 use Rattle.syntax.specs.Tree.{Expr, Definition, Ad, size, nodes}
 use Rattle.syntax.specs.Token.{Token, operator, symbol}
 use Rattle.syntax.specs.Grammar.{unaryToken, ReadsTo, reads-literal, reads-own, reads-other, reads-parentheses, reads-unary, reads-binary, reads-conditional, reads-tighter, DefinesTo, defines-one, defines-more, AdTo, ad-empty, ad-plain, ad-trailing, IsAd, defined, NewAfter, Within}
-use Rattle.syntax.specs.Laws.Codes.{neither}
 use Rattle.syntax.specs.declared.Unary.{Unary}
 use Rattle.syntax.specs.declared.Unary.the-variants.{Not, Plus, Minus}
 use Rattle.syntax.specs.declared.Symbol.the-variants.{CloseBracket, Semicolon, OpenParenthesis, CloseParenthesis, Question, Colon}
@@ -125,10 +125,6 @@ ad-counted (ad-trailing {ts} d) =
 
 -- ---- names
 
-or-true : (x y : Bool) → y ≡ true → (x || y) ≡ true
-or-true true y h = refl
-or-true false y h = h
-
 among-front : (w : List ℕ) (xs ys : List (List ℕ)) → among w (xs ++ ys) ≡ false → among w xs ≡ false
 unfolding among
 among-front w [] ys h = refl
@@ -147,7 +143,7 @@ among-last w x (y ∷ xs) h i = let k = neither (sameName w y) (among w xs) h in
 among-there : (w x : List ℕ) (xs : List (List ℕ)) → sameName w x ≡ true → among w (xs ++ x ∷ []) ≡ true
 unfolding among
 among-there w x [] i = rw i refl
-among-there w x (y ∷ xs) i = or-true (sameName w y) _ (among-there w x xs i)
+among-there w x (y ∷ xs) i = or-right (sameName w y) _ (among-there w x xs i)
 
 -- a name more: one that is new, and one that is there
 pub fresh-last : (a : Ad) (w : List ℕ) → repeats (names a) ≡ false → defined w a ≡ false → repeats (names a ++ w ∷ []) ≡ false
@@ -165,7 +161,7 @@ taken-last (d ∷ a) w h = go (sameName (d .name) w) refl (taken-last a w) h
   where
     go : (b : Bool) → sameName (d .name) w ≡ b → (defined w a ≡ true → repeats (names a ++ w ∷ []) ≡ true) → (b || defined w a) ≡ true → repeats (d .name ∷ (names a ++ w ∷ [])) ≡ true
     go true e f h = rw (among-there (d .name) w (names a) e) refl
-    go false e f h = or-true (among (d .name) (names a ++ w ∷ [])) _ (f h)
+    go false e f h = or-right (among (d .name) (names a ++ w ∷ [])) _ (f h)
 
 distinct-repeats : (a b : Ad) → repeats (names a) ≡ false → NewAfter defined a b → repeats (names (a ++ b)) ≡ false
 unfolding NewAfter

@@ -7,6 +7,7 @@ use mathlib.Core.Bool.{true, _||_}
 use mathlib.Core.List.{List, [], _∷_}
 use lib.ListN.{length, drop}
 use lib.Dec.{ltb, eqb}
+use Rattle.syntax.specs.Laws.Marks.{starts-continues}
 use Rattle.text.specs.Bytes.{isBlank, isDigit, startsName, continuesName}
 use Rattle.text.specs.Strings.{sameName}
 use Rattle.syntax.specs.Bounds.{nameBytes, stringBytes, maxInteger, realDigits}
@@ -62,11 +63,6 @@ reserved-spelled = (tt, (tt, (tt, (tt, (tt, (tt, (tt, (tt, tt))))))))
 spellings-spelled : Spelled spellings
 unfolding Spelled spellings
 spellings-spelled = (tt, (tt, (tt, (tt, (tt, (tt, (tt, (tt, (tt, (tt, (tt, (tt, (tt, (tt, (tt, (tt, (tt, (tt, (tt, (tt, (tt, (tt, (tt, (tt, (tt, tt)))))))))))))))))))))))))
-
--- what starts a name goes on with it
-starts-continues : (b : ℕ) → startsName b ≡ true → continuesName b ≡ true
-unfolding startsName continuesName
-starts-continues b h = rw h refl
 
 front-some : (b : ℕ) (l : List ℕ) → continuesName b ≡ true → 0 < length (frontOf continuesName (b ∷ l))
 unfolding frontOf

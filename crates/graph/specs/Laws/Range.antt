@@ -8,8 +8,9 @@ use Prim.Native.Nat.{ℕ, zero, suc, _-_, _≤_, _<_, min}
 use native.Mathlib.Decide.{ℕ-discrete}
 use native.Mathlib.Omega.{arith}
 use lib.Dec.{eqb, ltb}
+use borrow.Author.Tests.{ltb-true}
 use Rattle.graph.specs.Members.{_∈_, here, Each}
-use Rattle.graph.specs.Laws.Members.{mem-nil, mem-cons, mem-drop, at-mem, put-same, put-other, ltb-true}
+use Rattle.graph.specs.Laws.Members.{mem-nil, mem-cons, mem-drop, at-mem, put-same, put-other}
 use Rattle.graph.specs.Graph.{Graph, Sound}
 use Rattle.graph.specs.declared.Place.{Place}
 use Rattle.graph.specs.declared.Place.the-variants.{Resolving, Starting, Searching, Closing, Between, Inside}
@@ -57,7 +58,7 @@ module _ (G : Graph) (w : Slotted G) where
       only h (inr k) = absurd (mem-nil k)
 
       go : (b : Bool) → ltb x (G .slots) ≡ b → y ∈ cond b (x ∷ []) [] → y < G .slots
-      go true e k = only (ltb-true e) (mem-cons k)
+      go true e k = only (ltb-true _ _ e) (mem-cons k)
       go false e k = absurd (mem-nil k)
 
   pub led-in : (target : ℕ → ℕ) (x : ℕ) → Slots (led G target x)
@@ -87,7 +88,7 @@ module _ (G : Graph) (w : Slotted G) where
   searched-in k = go (ltb k (G .size)) refl
     where
       go : (b : Bool) → ltb k (G .size) ≡ b → InRange G (cond b (Starting k) (Between 0))
-      go true e = ltb-true e
+      go true e = ltb-true _ _ e
       go false e = omega arith
 
   resolved-in : (i : ℕ) → InRange G (resolvedTo G i)
@@ -95,7 +96,7 @@ module _ (G : Graph) (w : Slotted G) where
   resolved-in i = go (ltb i (G .size)) refl
     where
       go : (b : Bool) → ltb i (G .size) ≡ b → InRange G (cond b (Resolving i) (searchedTo G 0))
-      go true e = ltb-true e
+      go true e = ltb-true _ _ e
       go false e = searched-in 0
 
   back-open-in : (k : ℕ) (u : List ℕ) (top high low : ℕ) → Slots u → top < G .slots → k < G .size → InRange G (backOpen G k u top high low)
@@ -159,8 +160,8 @@ module _ (G : Graph) (w : Slotted G) where
       where
         go : (b : Bool) → ltb k (searches G) ≡ b → (d : Bool) → Leads (cond b (cond d (moved s (Between (suc k))) (enter s k (start G k) 0)) s)
         go false q d = record { place-in = rw e o; target-same = refl }
-        go true q true = record { place-in = ltb-true q; target-same = refl }
-        go true q false = record { place-in = (start-in k (ltb-true q), ltb-true q); target-same = refl }
+        go true q true = record { place-in = ltb-true _ _ q; target-same = refl }
+        go true q false = record { place-in = (start-in k (ltb-true _ _ q), ltb-true _ _ q); target-same = refl }
 
     follow-in : (k x : ℕ) (ys : List ℕ) → s .place ≡ Inside k x → InRange G (Inside k x) → Slots ys → Leads (follow G s k x ys)
     unfolding follow

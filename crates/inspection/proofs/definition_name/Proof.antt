@@ -5,12 +5,6 @@ use Rattle.inspection.proofs.Holders.{holder-inside}
 use borrow.Author.Needs.{needs}
 use Rattle.inspection.proofs.definition_name.Statement.{statement}
 use Rattle.inspection.proofs.definition_name.Tie as tie
-use Rattle.inspection.proofs.definition_name.Reads as reads
-use Rattle.inspection.proofs.definition_name.Lts as lts
-use Rattle.ad.proofs.name_length.Reads as name-length-reads
-use Rattle.ad.proofs.offset.Reads as offset-reads
-use Rattle.ad.proofs.part.Reads as part-reads
-use Rattle.inspection.proofs.definition_of.Reads as definition-of-reads
 
 -- src/lib.rt:39:11
 definition-of-requires : tie.Need-definition-of-requires

@@ -1,7 +1,7 @@
 use borrow.Author.Needs.{needs}
 use native.Mathlib.Omega.{arith}
-use mathlib.Core.Path.{_≡_, refl, sym, _∙_, ap, subst}
-use Prim.Native.Nat.{ℕ, _+_, _-_, _≤_, _<_}
+use mathlib.Core.Path.{_≡_, refl, sym, _∙_, ap}
+use Prim.Native.Nat.{_+_, _-_, _≤_}
 use lib.ListN.{length, drop, length-set}
 use lib.Seq.{sets}
 use Rattle.syntax.specs.Token.{bodyOf}
@@ -10,9 +10,6 @@ use Rattle.leaves.specs.Inner.Marks.{StringFrom}
 use Rattle.leaves.proofs.Laws.{step-next, step-closed, step-broken, step-none, store-byte, shorter}
 use Rattle.leaves.proofs.copy_string.Statement.{statement}
 use Rattle.leaves.proofs.copy_string.Tie as tie
-use Rattle.leaves.proofs.copy_string.Reads as reads
-use Rattle.leaves.proofs.copy_string.Lts as lts
-use Rattle.lexer.proofs.string_step.Reads as string-step-reads
 
 abbrev Inv-loop : tie.InvT-loop
 Inv-loop text at n bytes₀ k i₀ j₀ end bytes i j =

@@ -1,19 +1,11 @@
 use native.Mathlib.Omega.{arith}
-use mathlib.Core.Path.{_≡_, refl, sym, ap, _∙_}
+use mathlib.Core.Path.{refl, sym, _∙_}
 use Rattle.leaves.specs.Inner.Marks.{mark, memory}
 use Rattle.syntax.specs.declared.Symbol.the-variants.{OpenParenthesis, Other}
 use Rattle.leaves.proofs.Laws.{own-within, own-exact, string-within, string-exact, constant-within, constant-exact, leaf-end, leaf-bad, leaf-operator, leaf-symbol, leaf-open, leaf-other, leaf-further, symbol-is, stands-of, string-from, fewer-left}
 use borrow.Author.Needs.{needs}
 use Rattle.leaves.proofs.leaf_at.Statement.{statement}
 use Rattle.leaves.proofs.leaf_at.Tie as tie
-use Rattle.leaves.proofs.leaf_at.Reads as reads
-use Rattle.leaves.proofs.leaf_at.Lts as lts
-use Rattle.leaves.proofs.constant_leaf.Reads as constant-leaf-reads
-use Rattle.leaves.proofs.name_leaf.Reads as name-leaf-reads
-use Rattle.leaves.proofs.other_leaf.Reads as other-leaf-reads
-use Rattle.leaves.proofs.string_leaf.Reads as string-leaf-reads
-use Rattle.lexer.proofs.token_at.Reads as token-at-reads
-use Rattle.lookahead.proofs.symbol_code.Reads as symbol-code-reads
 
 name-leaf-requires : tie.Need-name-leaf-requires
 name-leaf-requires c κs =

@@ -6,10 +6,6 @@ use Rattle.leaves.proofs.Laws.{text-stored}
 use borrow.Author.Needs.{needs}
 use Rattle.leaves.proofs.name_leaf.Statement.{statement}
 use Rattle.leaves.proofs.name_leaf.Tie as tie
-use Rattle.leaves.proofs.name_leaf.Reads as reads
-use Rattle.leaves.proofs.name_leaf.Lts as lts
-use Rattle.ad.proofs.copy.Reads as copy-reads
-use Rattle.ad.proofs.store_node.Reads as store-node-reads
 
 returns-2 : tie.Need-returns-2
 returns-2 c =

@@ -4,11 +4,6 @@ use Rattle.leaves.proofs.Laws.{other-full, other-no-point, other-no-nam
 use borrow.Author.Needs.{needs}
 use Rattle.leaves.proofs.other_leaf.Statement.{statement}
 use Rattle.leaves.proofs.other_leaf.Tie as tie
-use Rattle.leaves.proofs.other_leaf.Reads as reads
-use Rattle.leaves.proofs.other_leaf.Lts as lts
-use Rattle.leaves.proofs.name_leaf.Reads as name-leaf-reads
-use Rattle.lookahead.proofs.symbol_at.Reads as symbol-at-reads
-use Rattle.lookahead.proofs.word_at.Reads as word-at-reads
 
 returns : tie.Need-returns
 returns c =

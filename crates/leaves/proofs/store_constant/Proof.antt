@@ -2,9 +2,6 @@ use Rattle.ad.specs.Layout.{literalNode}
 use borrow.Author.Needs.{needs}
 use Rattle.leaves.proofs.store_constant.Statement.{statement}
 use Rattle.leaves.proofs.store_constant.Tie as tie
-use Rattle.leaves.proofs.store_constant.Reads as reads
-use Rattle.leaves.proofs.store_constant.Lts as lts
-use Rattle.ad.proofs.store_node.Reads as store-node-reads
 
 returns : tie.Need-returns
 unfolding literalNode

@@ -1,15 +1,11 @@
 use native.Mathlib.Omega.{arith}
-use mathlib.Core.Path.{refl, sym, ap, _∙_}
+use mathlib.Core.Path.{refl, sym, ap}
 use Prim.Native.Nat.{_+_}
 use Rattle.lexer.specs.Inner.Meaning.{stringAt}
 use Rattle.leaves.proofs.Laws.{text-stored, string-size}
 use borrow.Author.Needs.{needs}
 use Rattle.leaves.proofs.string_leaf.Statement.{statement}
 use Rattle.leaves.proofs.string_leaf.Tie as tie
-use Rattle.leaves.proofs.string_leaf.Reads as reads
-use Rattle.leaves.proofs.string_leaf.Lts as lts
-use Rattle.ad.proofs.store_node.Reads as store-node-reads
-use Rattle.leaves.proofs.copy_string.Reads as copy-string-reads
 
 returns-2 : tie.Need-returns-2
 returns-2 c =

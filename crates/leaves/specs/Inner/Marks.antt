@@ -5,7 +5,7 @@ use mathlib.Core.List.{List}
 use lib.ListN.{length, drop}
 use lib.Seq.{sets}
 use Rattle.syntax.specs.Tree.{Expr, reference, other, size}
-use Rattle.syntax.specs.Token.{Tokens, symbol, Body, closed, bodyOf}
+use Rattle.syntax.specs.Token.{Tokens, symbol, closed, bodyOf}
 use Rattle.syntax.specs.Reader.{Parsed, ok, refused, after, want, onWord, misfit, level, room, limits, count, conditionalAt, primaryAt}
 use Rattle.syntax.specs.declared.Symbol.the-variants.{CloseParenthesis, Point}
 use Rattle.lexer.specs.Inner.Meaning.{tokensAt, literalOf}

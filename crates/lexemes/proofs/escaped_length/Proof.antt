@@ -1,13 +1,10 @@
 use mathlib.Core.Path.{refl}
-use Prim.Native.Nat.{_-_}
 use Rattle.syntax.specs.Print.{escaped}
 use Rattle.text.specs.Bytes.{bytes}
 use borrow.Author.Tests.{eq-eqb, ne-eqb}
 use native.Mathlib.Omega.{arith}
 use Rattle.lexemes.proofs.escaped_length.Statement.{statement}
 use Rattle.lexemes.proofs.escaped_length.Tie as tie
-use Rattle.lexemes.proofs.escaped_length.Reads as reads
-use Rattle.lexemes.proofs.escaped_length.Lts as lts
 
 returns : tie.Need-returns
 unfolding escaped bytes

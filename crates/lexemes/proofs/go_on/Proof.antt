@@ -8,9 +8,6 @@ use borrow.Author.Needs.{needs}
 use native.Mathlib.Omega.{arith}
 use Rattle.lexemes.proofs.go_on.Statement.{statement}
 use Rattle.lexemes.proofs.go_on.Tie as tie
-use Rattle.lexemes.proofs.go_on.Reads as reads
-use Rattle.lexemes.proofs.go_on.Lts as lts
-use Rattle.text.proofs.continues_name.Reads as continues-name-reads
 
 abbrev Inv-loop : tie.InvT-loop
 Inv-loop name i₀ i = (i ≤ length name) × (every continuesName (drop i name) ≡ every continuesName name)

@@ -2,10 +2,6 @@ use Rattle.lexemes.specs.Inner.Lexeme.{inString}
 use borrow.Author.Needs.{needs}
 use Rattle.lexemes.proofs.in_string.Statement.{statement}
 use Rattle.lexemes.proofs.in_string.Tie as tie
-use Rattle.lexemes.proofs.in_string.Reads as reads
-use Rattle.lexemes.proofs.in_string.Lts as lts
-use Rattle.lexemes.proofs.both.Reads as both-reads
-use Rattle.lexemes.proofs.either.Reads as either-reads
 
 returns : tie.Need-returns
 unfolding inString

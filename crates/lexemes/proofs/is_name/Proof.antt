@@ -1,5 +1,4 @@
 use mathlib.Core.Path.{sym, _∙_, ap}
-use Prim.Native.Nat.{_-_}
 use Rattle.lexemes.proofs.Laws.{name-empty, name-parts, ands}
 use mathlib.Core.Bool.{Bool, not, _&&_}
 use lib.Dec.{leb}
@@ -7,12 +6,6 @@ use lib.ListN.{length}
 use borrow.Author.Needs.{needs}
 use Rattle.lexemes.proofs.is_name.Statement.{statement}
 use Rattle.lexemes.proofs.is_name.Tie as tie
-use Rattle.lexemes.proofs.is_name.Reads as reads
-use Rattle.lexemes.proofs.is_name.Lts as lts
-use Rattle.lexemes.proofs.both.Reads as both-reads
-use Rattle.lexemes.proofs.go_on.Reads as go-on-reads
-use Rattle.lexemes.proofs.is_reserved.Reads as is-reserved-reads
-use Rattle.text.proofs.starts_name.Reads as starts-name-reads
 
 returns : tie.Need-returns
 returns c = name-empty (c .before .before .args .name .now) (c .if1 .taken)

@@ -2,9 +2,6 @@ use Rattle.lexemes.specs.Inner.Lexeme.{isReal}
 use borrow.Author.Needs.{needs}
 use Rattle.lexemes.proofs.is_real.Statement.{statement}
 use Rattle.lexemes.proofs.is_real.Tie as tie
-use Rattle.lexemes.proofs.is_real.Reads as reads
-use Rattle.lexemes.proofs.is_real.Lts as lts
-use Rattle.lexemes.proofs.both.Reads as both-reads
 
 returns : tie.Need-returns
 unfolding isReal

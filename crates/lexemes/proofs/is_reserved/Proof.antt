@@ -1,14 +1,9 @@
 use mathlib.Core.Path.{sym, _∙_}
-use Prim.Native.Nat.{_-_}
 use Rattle.lexemes.proofs.Laws.{reserved-words, ors}
 use Rattle.text.specs.Bytes.{bytes}
 use borrow.Author.Needs.{needs}
 use Rattle.lexemes.proofs.is_reserved.Statement.{statement}
 use Rattle.lexemes.proofs.is_reserved.Tie as tie
-use Rattle.lexemes.proofs.is_reserved.Reads as reads
-use Rattle.lexemes.proofs.is_reserved.Lts as lts
-use Rattle.lexemes.proofs.either.Reads as either-reads
-use Rattle.text.proofs.same_name.Reads as same-name-reads
 
 returns : tie.Need-returns
 unfolding bytes

@@ -2,10 +2,6 @@ use Rattle.lexemes.specs.Inner.Lexeme.{isString}
 use borrow.Author.Needs.{needs}
 use Rattle.lexemes.proofs.is_string.Statement.{statement}
 use Rattle.lexemes.proofs.is_string.Tie as tie
-use Rattle.lexemes.proofs.is_string.Reads as reads
-use Rattle.lexemes.proofs.is_string.Lts as lts
-use Rattle.lexemes.proofs.both.Reads as both-reads
-use Rattle.lexemes.proofs.string_bytes.Reads as string-bytes-reads
 
 returns : tie.Need-returns
 unfolding isString

@@ -8,9 +8,6 @@ use borrow.Author.Needs.{needs}
 use native.Mathlib.Omega.{arith}
 use Rattle.lexemes.proofs.string_bytes.Statement.{statement}
 use Rattle.lexemes.proofs.string_bytes.Tie as tie
-use Rattle.lexemes.proofs.string_bytes.Reads as reads
-use Rattle.lexemes.proofs.string_bytes.Lts as lts
-use Rattle.lexemes.proofs.in_string.Reads as in-string-reads
 
 abbrev Inv-loop : tie.InvT-loop
 Inv-loop s i₀ i = (i ≤ length s) × (every inString (drop i s) ≡ every inString s)

@@ -7,9 +7,6 @@ use borrow.Author.Needs.{needs}
 use native.Mathlib.Omega.{arith}
 use Rattle.lexemes.proofs.string_length.Statement.{statement}
 use Rattle.lexemes.proofs.string_length.Tie as tie
-use Rattle.lexemes.proofs.string_length.Reads as reads
-use Rattle.lexemes.proofs.string_length.Lts as lts
-use Rattle.lexemes.proofs.escaped_length.Reads as escaped-length-reads
 
 abbrev Inv-loop : tie.InvT-loop
 Inv-loop s i₀ n₀ i n = (i ≤ length s) × (n ≤ 2 * i) × (n + length (escapedAll (drop i s)) ≡ length (escapedAll s))

@@ -5,8 +5,6 @@ use Prim.Native.Nat.{_≤_, _+_}
 use borrow.Author.Needs.{needs}
 use Rattle.lexer.proofs.ahead.Statement.{statement}
 use Rattle.lexer.proofs.ahead.Tie as tie
-use Rattle.lexer.proofs.ahead.Reads as reads
-use Rattle.lexer.proofs.ahead.Lts as lts
 
 returns-2 : tie.Need-returns-2
 returns-2 c =

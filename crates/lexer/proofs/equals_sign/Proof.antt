@@ -1,8 +1,6 @@
 use Rattle.lexer.proofs.Laws.{equals-twice, equals-is, equals-isnt, equals-other, equals-alone}
 use Rattle.lexer.proofs.equals_sign.Statement.{statement}
 use Rattle.lexer.proofs.equals_sign.Tie as tie
-use Rattle.lexer.proofs.equals_sign.Reads as reads
-use Rattle.lexer.proofs.equals_sign.Lts as lts
 
 returns : tie.Need-returns
 returns c = equals-twice (c .before .args .c) (c .before .args .d) (c .if1 .taken)

@@ -2,8 +2,6 @@ use borrow.Author.Tests.{eq-eqb, ne-eqb}
 use Rattle.syntax.specs.Token.{escapeOf}
 use Rattle.lexer.proofs.escape.Statement.{statement}
 use Rattle.lexer.proofs.escape.Tie as tie
-use Rattle.lexer.proofs.escape.Reads as reads
-use Rattle.lexer.proofs.escape.Lts as lts
 
 returns : tie.Need-returns
 unfolding escapeOf

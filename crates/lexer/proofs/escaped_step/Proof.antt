@@ -4,9 +4,6 @@ use mathlib.Core.Path.{sym, _∙_}
 use borrow.Author.Needs.{needs}
 use Rattle.lexer.proofs.escaped_step.Statement.{statement}
 use Rattle.lexer.proofs.escaped_step.Tie as tie
-use Rattle.lexer.proofs.escaped_step.Reads as reads
-use Rattle.lexer.proofs.escaped_step.Lts as lts
-use Rattle.lexer.proofs.escape.Reads as escape-reads
 
 returns : tie.Need-returns
 returns c =

@@ -2,9 +2,6 @@ use Rattle.lexer.proofs.Laws.{fraction-end, fraction-other, fraction-so
 use borrow.Author.Needs.{needs}
 use Rattle.lexer.proofs.fraction.Statement.{statement}
 use Rattle.lexer.proofs.fraction.Tie as tie
-use Rattle.lexer.proofs.fraction.Reads as reads
-use Rattle.lexer.proofs.fraction.Lts as lts
-use Rattle.lexer.proofs.run.Reads as run-reads
 
 returns : tie.Need-returns
 returns c =

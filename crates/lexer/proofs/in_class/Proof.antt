@@ -1,10 +1,6 @@
 use borrow.Author.Needs.{needs}
 use Rattle.lexer.proofs.in_class.Statement.{statement}
 use Rattle.lexer.proofs.in_class.Tie as tie
-use Rattle.lexer.proofs.in_class.Reads as reads
-use Rattle.lexer.proofs.in_class.Lts as lts
-use Rattle.text.proofs.continues_name.Reads as continues-name-reads
-use Rattle.text.proofs.is_digit.Reads as is-digit-reads
 
 returns : tie.Need-returns
 returns c = rw (c .before .if1 .taken) (c .is-digit .ensures)

@@ -2,9 +2,6 @@ use Rattle.lexer.proofs.Laws.{long-equals, long-unequal, long-less, lon
 use borrow.Author.Needs.{needs}
 use Rattle.lexer.proofs.long_sign.Statement.{statement}
 use Rattle.lexer.proofs.long_sign.Tie as tie
-use Rattle.lexer.proofs.long_sign.Reads as reads
-use Rattle.lexer.proofs.long_sign.Lts as lts
-use Rattle.lexer.proofs.equals_sign.Reads as equals-sign-reads
 
 returns : tie.Need-returns
 returns c =

@@ -1,13 +1,9 @@
 use native.Mathlib.Omega.{arith}
-use mathlib.Core.Path.{_≡_, sym, _∙_}
+use mathlib.Core.Path.{_∙_}
 use Rattle.lexer.proofs.Laws.{name-long, name-token, run-some}
 use borrow.Author.Needs.{needs}
 use Rattle.lexer.proofs.name.Statement.{statement}
 use Rattle.lexer.proofs.name.Tie as tie
-use Rattle.lexer.proofs.name.Reads as reads
-use Rattle.lexer.proofs.name.Lts as lts
-use Rattle.lexer.proofs.run.Reads as run-reads
-use Rattle.lexer.proofs.word.Reads as word-reads
 
 returns : tie.Need-returns
 returns c = record {

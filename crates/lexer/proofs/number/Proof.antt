@@ -1,15 +1,8 @@
 use native.Mathlib.Omega.{arith}
-use mathlib.Core.Path.{_≡_, sym, _∙_}
-use Prim.Native.Nat.{_<_, _+_}
 use Rattle.lexer.proofs.Laws.{number-large, number-integer, number-long, number-real, run-some}
 use borrow.Author.Needs.{needs}
 use Rattle.lexer.proofs.number.Statement.{statement}
 use Rattle.lexer.proofs.number.Tie as tie
-use Rattle.lexer.proofs.number.Reads as reads
-use Rattle.lexer.proofs.number.Lts as lts
-use Rattle.lexer.proofs.fraction.Reads as fraction-reads
-use Rattle.lexer.proofs.run.Reads as run-reads
-use Rattle.lexer.proofs.value.Reads as value-reads
 
 returns : tie.Need-returns
 returns c =

@@ -1,7 +1,7 @@
 use borrow.Author.Needs.{needs}
 use native.Mathlib.Omega.{arith}
 use Prim.Native.Nat.{_≤_, _-_}
-use mathlib.Core.Path.{_≡_, refl, sym, _∙_}
+use mathlib.Core.Path.{_≡_, sym, _∙_}
 use mathlib.Core.List.{_++_}
 use lib.ListN.{length, drop}
 use lib.Seq.{slice}
@@ -10,9 +10,6 @@ use Rattle.lexer.specs.Inner.Meaning.{classOf}
 use Rattle.lexer.proofs.Laws.{run-start, run-step, run-stop, run-end}
 use Rattle.lexer.proofs.run.Statement.{statement}
 use Rattle.lexer.proofs.run.Tie as tie
-use Rattle.lexer.proofs.run.Reads as reads
-use Rattle.lexer.proofs.run.Lts as lts
-use Rattle.lexer.proofs.in_class.Reads as in-class-reads
 
 abbrev Inv-loop : tie.InvT-loop
 Inv-loop text at digits i₀ i =

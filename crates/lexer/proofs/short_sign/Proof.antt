@@ -4,8 +4,6 @@ use Rattle.syntax.specs.Token.{symbolIn, spellings, begins}
 use Rattle.lexer.proofs.Laws.{short-at, short-none}
 use Rattle.lexer.proofs.short_sign.Statement.{statement}
 use Rattle.lexer.proofs.short_sign.Tie as tie
-use Rattle.lexer.proofs.short_sign.Reads as reads
-use Rattle.lexer.proofs.short_sign.Lts as lts
 
 returns : tie.Need-returns
 unfolding symbolIn spellings begins bytes

@@ -4,11 +4,6 @@ use Rattle.lexer.proofs.Laws.{sign-long, sign-short}
 use borrow.Author.Needs.{needs}
 use Rattle.lexer.proofs.sign_at.Statement.{statement}
 use Rattle.lexer.proofs.sign_at.Tie as tie
-use Rattle.lexer.proofs.sign_at.Reads as reads
-use Rattle.lexer.proofs.sign_at.Lts as lts
-use Rattle.lexer.proofs.ahead.Reads as ahead-reads
-use Rattle.lexer.proofs.long_sign.Reads as long-sign-reads
-use Rattle.lexer.proofs.short_sign.Reads as short-sign-reads
 
 returns : tie.Need-returns
 returns c =

@@ -7,9 +7,6 @@ use Rattle.lexer.specs.Inner.Meaning.{tokensAt}
 use Rattle.lexer.proofs.Laws.{skip-step}
 use Rattle.lexer.proofs.skip.Statement.{statement}
 use Rattle.lexer.proofs.skip.Tie as tie
-use Rattle.lexer.proofs.skip.Reads as reads
-use Rattle.lexer.proofs.skip.Lts as lts
-use Rattle.text.proofs.is_blank.Reads as is-blank-reads
 
 abbrev Inv-loop : tie.InvT-loop
 Inv-loop text at i₀ i = (at ≤ i) × (i ≤ length text) × (tokensAt text at ≡ tokensAt text i)

@@ -3,9 +3,6 @@ use Rattle.lexer.proofs.Laws.{string-broken, string-long, string-token,
 use borrow.Author.Needs.{needs}
 use Rattle.lexer.proofs.string.Statement.{statement}
 use Rattle.lexer.proofs.string.Tie as tie
-use Rattle.lexer.proofs.string.Reads as reads
-use Rattle.lexer.proofs.string.Lts as lts
-use Rattle.lexer.proofs.string_end.Reads as string-end-reads
 
 returns : tie.Need-returns
 returns c =

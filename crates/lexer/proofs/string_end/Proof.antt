@@ -1,13 +1,10 @@
 use borrow.Author.Needs.{needs}
 use native.Mathlib.Omega.{arith}
-use Prim.Native.Nat.{ℕ, _≤_, _+_, _-_}
+use Prim.Native.Nat.{_≤_, _+_, _-_}
 use lib.ListN.{length}
 use Rattle.lexer.proofs.Laws.{Gone, gone-start, gone-byte, gone-close, gone-broken, string-none}
 use Rattle.lexer.proofs.string_end.Statement.{statement}
 use Rattle.lexer.proofs.string_end.Tie as tie
-use Rattle.lexer.proofs.string_end.Reads as reads
-use Rattle.lexer.proofs.string_end.Lts as lts
-use Rattle.lexer.proofs.string_step.Reads as string-step-reads
 
 abbrev Inv-loop : tie.InvT-loop
 Inv-loop text at i₀ n₀ i n = (at + n ≤ i) × (i ≤ length text) × Gone text at i n

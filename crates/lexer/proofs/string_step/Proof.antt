@@ -3,9 +3,6 @@ use Rattle.lexer.proofs.Laws.{string-none, string-close, string-low, st
 use borrow.Author.Needs.{needs}
 use Rattle.lexer.proofs.string_step.Statement.{statement}
 use Rattle.lexer.proofs.string_step.Tie as tie
-use Rattle.lexer.proofs.string_step.Reads as reads
-use Rattle.lexer.proofs.string_step.Lts as lts
-use Rattle.lexer.proofs.escaped_step.Reads as escaped-step-reads
 
 returns : tie.Need-returns
 returns c = string-none (c .before .before .args .text .now) (c .before .before .args .i) (c .if1 .taken)

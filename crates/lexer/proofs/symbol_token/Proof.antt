@@ -1,13 +1,10 @@
 use native.Mathlib.Omega.{arith}
-use mathlib.Core.Path.{refl, sym, _∙_, ap}
+use mathlib.Core.Path.{sym, _∙_, ap}
 use Rattle.lexer.specs.Inner.Meaning.{signFront}
 use Rattle.lexer.proofs.Laws.{symbol-placed, symbol-bad}
 use borrow.Author.Needs.{needs}
 use Rattle.lexer.proofs.symbol_token.Statement.{statement}
 use Rattle.lexer.proofs.symbol_token.Tie as tie
-use Rattle.lexer.proofs.symbol_token.Reads as reads
-use Rattle.lexer.proofs.symbol_token.Lts as lts
-use Rattle.lexer.proofs.sign_at.Reads as sign-at-reads
 
 add-t9 : tie.Need-add-t9
 add-t9 c = let f = (rw (c .before .j .given .1) at (c .before .before .before .sign-at .ensures .fits)) in omega arith

@@ -3,10 +3,6 @@ use Rattle.lexer.proofs.Laws.{span-from}
 use borrow.Author.Needs.{needs}
 use Rattle.lexer.proofs.token_at.Statement.{statement}
 use Rattle.lexer.proofs.token_at.Tie as tie
-use Rattle.lexer.proofs.token_at.Reads as reads
-use Rattle.lexer.proofs.token_at.Lts as lts
-use Rattle.lexer.proofs.skip.Reads as skip-reads
-use Rattle.lexer.proofs.token_from.Reads as token-from-reads
 
 returns : tie.Need-returns
 returns c = record {

@@ -1,16 +1,9 @@
-use mathlib.Core.Path.{_≡_, refl, sym, _∙_, ap}
-use Rattle.lexer.proofs.Laws.{scan-end, scan-name, scan-number, scan-string, scan-symbol, name-byte}
+use mathlib.Core.Path.{sym, _∙_}
+use Rattle.syntax.specs.Laws.Marks.{starts-continues}
+use Rattle.lexer.proofs.Laws.{scan-end, scan-name, scan-number, scan-string, scan-symbol}
 use borrow.Author.Needs.{needs}
 use Rattle.lexer.proofs.token_from.Statement.{statement}
 use Rattle.lexer.proofs.token_from.Tie as tie
-use Rattle.lexer.proofs.token_from.Reads as reads
-use Rattle.lexer.proofs.token_from.Lts as lts
-use Rattle.lexer.proofs.name.Reads as name-reads
-use Rattle.lexer.proofs.number.Reads as number-reads
-use Rattle.lexer.proofs.string.Reads as string-reads
-use Rattle.lexer.proofs.symbol_token.Reads as symbol-token-reads
-use Rattle.text.proofs.is_digit.Reads as is-digit-reads
-use Rattle.text.proofs.starts_name.Reads as starts-name-reads
 
 returns : tie.Need-returns
 returns c = record {
@@ -22,7 +15,7 @@ returns c = record {
 name-requires : tie.Need-name-requires
 name-requires c κs = record {
   inside = c .before .before .before .if1 .left;
-  byte = name-byte _ (sym (c .before .starts-name .ensures) ∙ c .if2 .taken);
+  byte = starts-continues _ (sym (c .before .starts-name .ensures) ∙ c .if2 .taken);
 }
 
 returns-2 : tie.Need-returns-2

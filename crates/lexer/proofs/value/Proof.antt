@@ -1,20 +1,16 @@
 use borrow.Author.Needs.{needs}
 use native.Mathlib.Omega.{arith}
 use Prim.Native.Nat.{_≤_, _-_}
-use mathlib.Core.Path.{_≡_, refl, sym, _∙_}
-use lib.ListN.{length}
+use mathlib.Core.Path.{_≡_, refl, _∙_}
 use lib.Seq.{slice}
-use Rattle.lexer.specs.Inner.Meaning.{valueTo, cap}
+use Rattle.lexer.specs.Inner.Meaning.{valueTo, largestRead}
 use Rattle.lexer.proofs.Laws.{value-step, value-end}
 use Rattle.lexer.proofs.value.Statement.{statement}
 use Rattle.lexer.proofs.value.Tie as tie
-use Rattle.lexer.proofs.value.Reads as reads
-use Rattle.lexer.proofs.value.Lts as lts
-use Rattle.lexer.proofs.push.Reads as push-reads
 
 abbrev Inv-loop : tie.InvT-loop
 Inv-loop text p q v i₀ w₀ i w =
-    (p ≤ i) × (i ≤ q) × (w ≤ cap) × (valueTo w (slice i q text) ≡ valueTo v (slice p q text))
+    (p ≤ i) × (i ≤ q) × (w ≤ largestRead) × (valueTo w (slice i q text) ≡ valueTo v (slice p q text))
 
 abbrev μ-loop : tie.MeasureT-loop
 μ-loop text p q v i₀ w₀ i w = q - i

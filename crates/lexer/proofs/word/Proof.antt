@@ -1,5 +1,5 @@
 use native.Mathlib.Omega.{arith}
-use mathlib.Core.Path.{_≡_, refl, sym, _∙_, ap}
+use mathlib.Core.Path.{sym, _∙_, ap}
 use Rattle.text.specs.Bytes.{bytes}
 use Rattle.syntax.specs.Token as T
 use Rattle.syntax.specs.Token.{next, wordIn, reserved}
@@ -11,9 +11,6 @@ use Rattle.lexer.proofs.Laws.{word-true, word-false, word-undefined, wo
 use borrow.Author.Needs.{needs}
 use Rattle.lexer.proofs.word.Statement.{statement}
 use Rattle.lexer.proofs.word.Tie as tie
-use Rattle.lexer.proofs.word.Reads as reads
-use Rattle.lexer.proofs.word.Lts as lts
-use Rattle.text.proofs.same_name.Reads as same-name-reads
 
 returns : tie.Need-returns
 unfolding bytes

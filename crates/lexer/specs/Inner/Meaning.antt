@@ -2,7 +2,7 @@
 use Prim.Native.Nat.{ℕ, _+_, _-_, _≤_, _<_, min}
 use mathlib.Core.Path.{_≡_}
 use mathlib.Core.Bool.{Bool, true, false}
-use mathlib.Core.List.{List, [], _∷_}
+use mathlib.Core.List.{List, []}
 use lib.ListN.{length, getD, drop}
 use lib.Seq.{slice}
 use Rattle.text.specs.Bytes.{isBlank, isDigit, continuesName}
@@ -117,12 +117,12 @@ pub record AtBackslash (s : List ℕ) (i : ℕ) : Type 0 where
   pub backslash : getD s i 0 ≡ 92
 
 -- the largest number that is told apart: over 15 digits, and over the range of an Integer
-abbrev pub cap : ℕ
-cap = 1000000000000000
+abbrev pub largestRead : ℕ
+largestRead = 1000000000000000
 
--- the digits from p up to q read after v, but no more than the cap
+-- the digits from p up to q read after v, but no more than the largest
 abbrev pub valueTo : ℕ → List ℕ → ℕ
-valueTo v ds = min (valueFrom v ds) cap
+valueTo v ds = min (valueFrom v ds) largestRead
 
 -- one step in a string, at the place i: 'bytes 0x20 to 0x7E other than `"` and `\`, escapes .., `"`', or a 'bad byte or escape in
 -- a string, string not closed'

@@ -14,8 +14,8 @@ kind-requires c κs =
     let h = nodes-fit (s .pre .0 .0) in
     (search needs, s .pre .0 .0 .formed .words-room)
 
-name-requires : tie.Need-name-requires
-name-requires c κs =
+reference-name-requires : tie.Need-reference-name-requires
+reference-name-requires c κs =
     let s = c .before .before .before .before .before .before .before in
     let k = s .pre .0 .2 in
     let h = nodes-fit (s .pre .0 .0) in
@@ -29,7 +29,7 @@ find-name-requires c κs =
 returns : tie.Need-returns
 returns c =
     let e-find-name = c .find-name in
-    let e-name = c .before .name in
+    let e-name = c .before .reference-name in
     let e-if1 = c .before .before .if1 in
     let e-kind = c .before .before .before .kind in
     let s = c .before .before .before .before .before .before .before .before .before in
@@ -37,8 +37,8 @@ returns c =
     (now (s .args .names)) (s .args .second) (s .args .i) (s .pre .0 .2) (e-kind .ensures)
     (e-if1 .taken) (e-name .ensures) (e-find-name .ensures)
 
-name-requires-2 : tie.Need-name-requires-2
-name-requires-2 c κs =
+reference-name-requires-2 : tie.Need-reference-name-requires-2
+reference-name-requires-2 c κs =
     let s = c .before .before .before .before .before .before .before .before in
     let k = s .pre .0 .2 in
     let h = nodes-fit (s .pre .0 .0) in
@@ -59,7 +59,7 @@ returns-2 : tie.Need-returns-2
 returns-2 c =
     let e-find-name2 = c .find-name2 in
     let e-opposite = c .before .opposite in
-    let e-name2 = c .before .before .name2 in
+    let e-name2 = c .before .before .reference-name2 in
     let e-if2 = c .before .before .before .if2 in
     let at-e-kind = c .before .before .before .before .before in
     let e-kind = at-e-kind .kind in
@@ -80,5 +80,5 @@ returns-3 c =
 
 pub found-from-spec : {M : Type 1} → statement M
 found-from-spec =
-    tie.close (tie.spec kind-requires name-requires find-name-requires returns name-requires-2
+    tie.close (tie.spec kind-requires reference-name-requires find-name-requires returns reference-name-requires-2
     (λ c κs. search needs) find-name-requires-2 returns-2 returns-3)

@@ -50,8 +50,8 @@ returns-4 c =
       λ b d. count-operands (now (start .args .v)) b (now (start .args .w)) d (start .args .x)
           (start .pre .0) (start .pre .1) (start .pre .2) (b2 .before .kind-of .ensures)
           (b2 .is-reference .ensures) (now (start .args .target)) (c .before .if1 .left)
-          (c .operands .ensures),
-      arity-fits _ (c .operands .ensures),
+          (c .arity .ensures),
+      arity-fits _ (c .arity .ensures),
     )
 
 pub led-count-spec : {M : Type 1} → statement M

@@ -8,10 +8,11 @@ use native.Mathlib.Nat.{le-refl}
 use native.Mathlib.Omega.{arith}
 use lib.ListN.{length}
 use lib.Dec.{eqb, ltb}
+use borrow.Author.Tests.{eq-eqb, ne-eqb}
 use Rattle.text.specs.Strings.{sameName}
 use Rattle.syntax.specs.Bounds.{maxNodes, maxDefinitions}
 use Rattle.graph.specs.Members.{_∈_, here, there, Each}
-use Rattle.graph.specs.Laws.Members.{mem-nil, mem-cons, eqb-yes, eqb-no}
+use Rattle.graph.specs.Laws.Members.{mem-nil, mem-cons}
 use Rattle.ad.specs.Stored.{leading, nodeCount, definitionCount, kindAt, offsetAt, lengthAt, rootAt, bytesAt, findFrom, find, rootsFrom, arity}
 
 -- ---- what stands before the first 0
@@ -31,7 +32,7 @@ unfolding leading
 leading-is f zero i zero h a b = refl
 leading-is f zero i (suc k) h a b =
     let e : f i ≡ 0 = subst (λ (u : ℕ). f u ≡ 0) (let q : i + 0 ≡ i = omega arith in q) (b (omega arith)) in
-    rw (eqb-yes e) refl
+    rw (eq-eqb _ _ e) refl
 leading-is f (suc n) i zero h a b = absurd (let q : ⊥ = omega arith in q)
 leading-is f (suc n) i (suc k) h a b =
     let e : f i ≢ 0 = subst (λ (u : ℕ). f u ≢ 0) (let q : i + 0 ≡ i = omega arith in q) (a 0 (omega arith)) in
@@ -39,16 +40,7 @@ leading-is f (suc n) i (suc k) h a b =
     leading-is f n (suc i) k (omega arith)
     (λ j lt. subst (λ (u : ℕ). f u ≢ 0) (let q : i + suc j ≡ suc i + j = omega arith in q) (a (suc j) (omega arith)))
     (λ lt. subst (λ (u : ℕ). f u ≡ 0) (let q : i + suc n ≡ suc i + n = omega arith in q) (b (omega arith))) in
-    rw (eqb-no e) (ap suc r)
-
--- one more that is not 0, and the end
-pub leading-more : (f : ℕ → ℕ) (i k : ℕ) → f i ≢ 0 → suc (leading f (suc i) k) ≡ leading f i (suc k)
-unfolding leading
-leading-more f i k e = rw (eqb-no e) refl
-
-pub leading-stop : (f : ℕ → ℕ) (i k : ℕ) → f i ≡ 0 → 0 ≡ leading f i (suc k)
-unfolding leading
-leading-stop f i k e = rw (eqb-yes e) refl
+    rw (ne-eqb _ _ e) (ap suc r)
 
 pub nodes-few : (w : List ℕ) → nodeCount w ≤ maxNodes
 unfolding nodeCount

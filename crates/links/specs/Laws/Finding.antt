@@ -1,14 +1,12 @@
 -- A name looked up in a stored ad is looked up in its tree. Assumes nothing.
-use mathlib.Core.Path.{_≡_, refl, sym, ap, _∙_, subst}
-use mathlib.Core.Bool.{cond}
+use mathlib.Core.Path.{_≡_, refl, sym, ap, _∙_}
 use mathlib.Core.List.{List, [], _∷_, _++_, append-assoc}
-use Prim.Native.Nat.{ℕ, zero, suc, _+_, _-_, _*_, _≤_, _<_}
+use Prim.Native.Nat.{ℕ, suc, _+_, _-_, _*_, _<_}
 use native.Mathlib.Omega.{arith}
 use lib.ListN.{length, getD, take, drop, replicate}
 use lib.Seq.{take-append-seam, drop-append-seam, drop-drop}
-use Rattle.text.specs.Strings.{sameName}
-use Rattle.syntax.specs.Tree.{Definition, Ad, size, nodes}
-use Rattle.ad.specs.Layout.{nodeWords, adBytesRoom, exprBytes, adBytes, adDefinitions, storedWords, storedBytes}
+use Rattle.syntax.specs.Tree.{Ad, size}
+use Rattle.ad.specs.Layout.{nodeWords, adBytesRoom, exprBytes, adBytes, adDefinitions, storedBytes}
 use Rattle.ad.specs.Stored.{offsetAt, lengthAt, rootAt, bytesAt, definitionCount, findFrom, find}
 use Rattle.links.specs.Pair.{definitionAt, StoredAd}
 use Rattle.links.specs.Laws.Layout.{stored-definitions, stored-behind}

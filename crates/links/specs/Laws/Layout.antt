@@ -1,20 +1,21 @@
 -- A stored ad is well formed: its nodes stand after their operands, and its definitions have their roots among them. Assumes nothing.
 use mathlib.Core.Path.{_≡_, refl, sym, ap, _∙_, subst}
 use mathlib.Core.Logic.{_≢_, _⊎_, inl, inr}
-use mathlib.Core.Bool.{Bool, true, false, cond}
+use mathlib.Core.Bool.{cond}
 use mathlib.Core.List.{List, [], _∷_, _++_, append-assoc, append-nil}
 use Prim.Native.Nat.{ℕ, zero, suc, _+_, _-_, _*_, _≤_, _<_}
 use native.Mathlib.Nat.{le-refl}
 use native.Mathlib.Omega.{arith}
-use lib.ListN.{length, getD, take, replicate, length-append, length-replicate, List·getD-append}
+use lib.ListN.{length, getD, take, replicate, length-append, List·getD-append}
 use lib.Seq.{getD-append-add}
+use Rattle.ad.specs.Laws.Content.{size-some, padded-length}
 use Rattle.syntax.specs.Bounds.{maxNodes, maxDefinitions}
-use Rattle.syntax.specs.Tree.{Literal, undefined, error, boolean, integer, real, string, Scope, own, other, Expr, literal, reference, unary, binary, conditional, Definition, Ad, size, nodes}
+use Rattle.syntax.specs.Tree.{Literal, undefined, error, boolean, integer, real, string, Scope, own, other, Expr, literal, reference, unary, binary, conditional, Ad, size, nodes}
 use Rattle.syntax.specs.declared.Binary.{Binary}
 use Rattle.syntax.specs.declared.Binary.the-variants.{Or, And, Equal, NotEqual, Is, Isnt, Less, LessOrEqual, Greater, GreaterOrEqual, Add, Subtract, Multiply, Divide, Remainder}
 use Rattle.syntax.specs.declared.Unary.{Unary}
 use Rattle.syntax.specs.declared.Unary.the-variants.{Not, Plus, Minus}
-use Rattle.ad.specs.Layout.{unaryKind, binaryKind, scopeKind, node, literalNode, exprBytes, exprNodes, adNodes, adDefinitions, Named, nodeWords, adWords, padded, storedWords, storedBytes}
+use Rattle.ad.specs.Layout.{unaryKind, binaryKind, scopeKind, node, literalNode, exprBytes, exprNodes, adNodes, adDefinitions, Named, nodeWords, adWords, storedWords}
 use Rattle.graph.specs.Members.{_∈_, Each}
 use Rattle.graph.specs.Laws.Members.{mem-nil, mem-cons}
 use Rattle.graph.specs.Graph.{Sound}
@@ -56,14 +57,6 @@ each-cons {n} {x} {l} h f y m = go (mem-cons m)
     go : (y ≡ x) ⊎ (y ∈ l) → y < n
     go (inl e) = rw e h
     go (inr k) = f y k
-
-pub size-some : (e : Expr) → 1 ≤ size e
-unfolding size
-size-some (literal l) = le-refl 1
-size-some (reference s w) = le-refl 1
-size-some (unary u a) = omega arith
-size-some (binary j a b) = omega arith
-size-some (conditional a b c) = omega arith
 
 literal-nodes : (n o : ℕ) (l : Literal) → Nodes n (literalNode o l) 1
 unfolding literalNode arity
@@ -138,10 +131,10 @@ ad-nodes n o (d ∷ ds) = nodes-append (expr-nodes n _ (d .expression)) (ad-node
 
 -- ---- by their index, whatever follows them
 
-kind-next : (k a b c : ℕ) (l : List ℕ) (i : ℕ) → kindAt (k ∷ a ∷ b ∷ c ∷ l) (suc i) ≡ kindAt l i
+pub kind-next : (k a b c : ℕ) (l : List ℕ) (i : ℕ) → kindAt (k ∷ a ∷ b ∷ c ∷ l) (suc i) ≡ kindAt l i
 kind-next k a b c l i = ap (λ (u : ℕ). getD (k ∷ a ∷ b ∷ c ∷ l) u 0) (let q : 4 * suc i ≡ suc (suc (suc (suc (4 * i)))) = omega arith in q)
 
-operand-next : (k a b c : ℕ) (l : List ℕ) (i j : ℕ) → operandAt (k ∷ a ∷ b ∷ c ∷ l) (suc i) j ≡ operandAt l i j
+pub operand-next : (k a b c : ℕ) (l : List ℕ) (i j : ℕ) → operandAt (k ∷ a ∷ b ∷ c ∷ l) (suc i) j ≡ operandAt l i j
 operand-next k a b c l i j = ap (λ (u : ℕ). getD (k ∷ a ∷ b ∷ c ∷ l) u 0) (let q : 4 * suc i + 1 + j ≡ suc (suc (suc (suc (4 * i + 1 + j)))) = omega arith in q)
 
 operands-next : (k a b c : ℕ) (l : List ℕ) (i : ℕ) → operands (k ∷ a ∷ b ∷ c ∷ l) (suc i) ≡ operands l i
@@ -208,12 +201,6 @@ padded-zero n i xs zs h k =
     ∙ ap (λ (u : ℕ). getD (xs ++ (replicate (n - length xs) 0 ++ zs)) u 0) e
     ∙ getD-append-add xs (replicate (n - length xs) 0 ++ zs) (i - length xs) 0
     ∙ zeros-at (n - length xs) (i - length xs) zs (omega arith)
-
-padded-length : (n : ℕ) (xs : List ℕ) → length xs ≤ n → length (xs ++ replicate (n - length xs) 0) ≡ n
-padded-length n xs h =
-    let a = length-append xs (replicate (n - length xs) 0) in
-    let b = length-replicate {A = ℕ} (n - length xs) 0 in
-    omega arith
 
 -- ---- the memory: N words for the nodes xs, then M words for the definitions ds
 

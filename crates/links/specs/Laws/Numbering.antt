@@ -1,7 +1,7 @@
 -- The graph of two ads by the numbers of its nodes: each way through the functions that read it. Assumes nothing.
 use mathlib.Core.Path.{_≡_, refl, sym, ap, _∙_, subst}
 use mathlib.Core.Logic.{_≢_}
-use mathlib.Core.Bool.{Bool, true, false, cond, not, _&&_, _||_}
+use mathlib.Core.Bool.{Bool, true, false, cond, not, _&&_}
 use mathlib.Core.List.{List, [], _∷_, map}
 use Prim.Native.Nat.{ℕ, zero, suc, _+_, _-_, _≤_, _<_}
 use native.Mathlib.Decide.{decLt}
@@ -9,8 +9,10 @@ use native.Mathlib.Omega.{arith}
 use lib.ListN.{length, getD, length-map}
 use lib.Seq.{getD-take, length-take-le}
 use lib.Dec.{ltb}
+use borrow.Author.Tests.{eq-eqb, le-ltb, lt-ltb, ltb-true, ne-eqb}
+use Rattle.text.specs.Laws.Booleans.{neither}
 use Rattle.graph.specs.Members.{_∈_}
-use Rattle.graph.specs.Laws.Members.{eqb-yes, eqb-no, ltb-yes, ltb-no, ltb-true, at-mem}
+use Rattle.graph.specs.Laws.Members.{at-mem}
 use Rattle.graph.specs.Graph.{Graph}
 use Rattle.graph.specs.Transition.{led, needed, named, marked}
 use Rattle.ad.specs.Stored.{kindAt, operandAt, nameAt, nodeCount, arity, operands, isOwn, isOther, isReference, find}
@@ -18,9 +20,6 @@ use Rattle.links.specs.Pair.{numbered, linked, inside, across, linksFrom
 use Rattle.links.specs.Laws.Counting.{nodes-few, definitions-few, arity-few}
 use Rattle.links.specs.Laws.Soundness.{both-low, both-high}
 use Rattle.graph.specs.Members.{numbers, raised}
-
-never : false ≡ true → ⊥
-never e = let z : _≡_ {A = ℕ} 0 1 = cc in omega arith
 
 -- ---- a fact of either side's node
 
@@ -39,10 +38,10 @@ module _ (v w : List ℕ) (x : ℕ) where
 
   module _ (s : Stands v w x) where
     pub stands-first : x < 1024 → x < nodeCount v
-    stands-first h = ltb-true (sym (both-low (λ i. ltb i (nodeCount v)) (λ i. ltb i (nodeCount w)) x h) ∙ s)
+    stands-first h = ltb-true _ _ (sym (both-low (λ i. ltb i (nodeCount v)) (λ i. ltb i (nodeCount w)) x h) ∙ s)
 
     pub stands-second : 1024 ≤ x → x - 1024 < nodeCount w
-    stands-second h = ltb-true (sym (both-high (λ i. ltb i (nodeCount v)) (λ i. ltb i (nodeCount w)) x h) ∙ s)
+    stands-second h = ltb-true _ _ (sym (both-high (λ i. ltb i (nodeCount v)) (λ i. ltb i (nodeCount w)) x h) ∙ s)
 
     pub stands-small : x < 2048
     stands-small = go (decLt x 1024)
@@ -87,11 +86,11 @@ operand-below w f j i l k =
 
 -- ---- links as numbers
 
-inside-numbers : (s : Bool) (l : List ℕ) → map (linked s) (map inside l) ≡ map (numbered s) l
+pub inside-numbers : (s : Bool) (l : List ℕ) → map (linked s) (map inside l) ≡ map (numbered s) l
 inside-numbers s [] = refl
 inside-numbers s (y ∷ l) = ap (λ (u : List ℕ). numbered s y ∷ u) (inside-numbers s l)
 
-across-numbers : (s : Bool) (l : List ℕ) → map (linked s) (map across l) ≡ map (numbered (not s)) l
+pub across-numbers : (s : Bool) (l : List ℕ) → map (linked s) (map across l) ≡ map (numbered (not s)) l
 across-numbers s [] = refl
 across-numbers s (y ∷ l) = ap (λ (u : List ℕ). numbered (not s) y ∷ u) (across-numbers s l)
 
@@ -100,33 +99,29 @@ map-at f [] i h = absurd (let q : ⊥ = omega arith in q)
 map-at f (y ∷ l) zero h = refl
 map-at f (y ∷ l) (suc i) h = map-at f l i (omega arith)
 
-or-none : (a b : Bool) → (a || b) ≡ false → (a ≡ false) × (b ≡ false)
-or-none true b e = absurd (never (sym e))
-or-none false b e = (refl, e)
-
 module _ (w b w′ b′ : List ℕ) (s : Bool) (j : ℕ) (h : j < nodeCount w) where
   links-operator : isReference (kindAt w j) ≡ false → map (linked s) (linksFrom w b w′ b′ j) ≡ map (numbered s) (operands w j)
   unfolding linksFrom
   links-operator e =
-      let q = or-none (isOwn (kindAt w j)) (isOther (kindAt w j)) e in
-      rw (ltb-yes h, q .0, q .1) (inside-numbers s (operands w j))
+      let q = neither (isOwn (kindAt w j)) (isOther (kindAt w j)) e in
+      rw (lt-ltb _ _ h, q .0, q .1) (inside-numbers s (operands w j))
 
   pub links-own : kindAt w j ≡ 7 → map (linked s) (linksFrom w b w′ b′ j) ≡ map (numbered s) (find w b (nameAt w b j))
   unfolding linksFrom
-  links-own e = rw (ltb-yes h, eqb-yes e) (inside-numbers s (find w b (nameAt w b j)))
+  links-own e = rw (lt-ltb _ _ h, eq-eqb _ _ e) (inside-numbers s (find w b (nameAt w b j)))
 
   links-other : kindAt w j ≡ 8 → map (linked s) (linksFrom w b w′ b′ j) ≡ map (numbered (not s)) (find w′ b′ (nameAt w b j))
   unfolding linksFrom
   links-other e =
       let n : kindAt w j ≢ 7 = λ q. (let z : _≡_ {A = ℕ} 7 8 = sym q ∙ e in omega arith) in
-      rw (ltb-yes h, eqb-no n, eqb-yes e) (across-numbers s (find w′ b′ (nameAt w b j)))
+      rw (lt-ltb _ _ h, ne-eqb _ _ n, eq-eqb _ _ e) (across-numbers s (find w′ b′ (nameAt w b j)))
 
   -- what is to be recorded of node j
   pub found-own : {kd r : ℕ} {name : List ℕ} → kd ≡ kindAt w j → kd ≡ 7 → name ≡ nameAt w b j → r ≡ marked (map (numbered s) (find w b name)) →
       r ≡ cond (isReference (kindAt w j)) (marked (map (linked s) (linksFrom w b w′ b′ j))) 0
   found-own {kd} {r} {name} p e q k =
       let e′ : kindAt w j ≡ 7 = sym p ∙ e in
-      k ∙ ap (λ (n : List ℕ). marked (map (numbered s) (find w b n))) q ∙ ap marked (sym (links-own e′)) ∙ rw (eqb-yes e′) refl
+      k ∙ ap (λ (n : List ℕ). marked (map (numbered s) (find w b n))) q ∙ ap marked (sym (links-own e′)) ∙ rw (eq-eqb _ _ e′) refl
 
   pub found-other : {kd r : ℕ} {name : List ℕ} {far : Bool} → kd ≡ kindAt w j → kd ≡ 8 → name ≡ nameAt w b j → far ≡ not s → r ≡ marked (map (numbered far) (find w′ b′ name)) →
       r ≡ cond (isReference (kindAt w j)) (marked (map (linked s) (linksFrom w b w′ b′ j))) 0
@@ -134,13 +129,13 @@ module _ (w b w′ b′ : List ℕ) (s : Bool) (j : ℕ) (h : j < nodeCount w) w
       let e′ : kindAt w j ≡ 8 = sym p ∙ e in
       let n : kindAt w j ≢ 7 = λ q. (let z : _≡_ {A = ℕ} 7 8 = sym q ∙ e′ in omega arith) in
       k ∙ ap (λ (t : Bool). marked (map (numbered t) (find w′ b′ name))) f ∙ ap (λ (n : List ℕ). marked (map (numbered (not s)) (find w′ b′ n))) q
-      ∙ ap marked (sym (links-other e′)) ∙ rw (eqb-no n, eqb-yes e′) refl
+      ∙ ap marked (sym (links-other e′)) ∙ rw (ne-eqb _ _ n, eq-eqb _ _ e′) refl
 
   pub found-none : {kd : ℕ} → kd ≡ kindAt w j → kd ≢ 7 → kd ≢ 8 → 0 ≡ cond (isReference (kindAt w j)) (marked (map (linked s) (linksFrom w b w′ b′ j))) 0
   found-none {kd} p e f =
       let e′ : kindAt w j ≢ 7 = λ q. e (p ∙ q) in
       let f′ : kindAt w j ≢ 8 = λ q. f (p ∙ q) in
-      rw (eqb-no e′, eqb-no f′) refl
+      rw (ne-eqb _ _ e′, ne-eqb _ _ f′) refl
 
 -- ---- any slot
 
@@ -151,7 +146,7 @@ unused-operands w j e = rw e refl
 
 unused-links : (w b w′ b′ : List ℕ) (j : ℕ) → nodeCount w ≤ j → linksFrom w b w′ b′ j ≡ []
 unfolding linksFrom
-unused-links w b w′ b′ j h = rw (ltb-no h) refl
+unused-links w b w′ b′ j h = rw (le-ltb _ _ h) refl
 
 module _ (w : List ℕ) (f : Formed w) (j : ℕ) (h : j < 1024) where
   refers-is : refersAt w j ≡ isReference (kindAt w j)
@@ -159,8 +154,8 @@ module _ (w : List ℕ) (f : Formed w) (j : ℕ) (h : j < 1024) where
   refers-is = go (decLt j (nodeCount w))
     where
       go : Dec (j < nodeCount w) → (ltb j (nodeCount w) && isReference (kindAt w j)) ≡ isReference (kindAt w j)
-      go (yes l) = rw (ltb-yes l) refl
-      go (no n) = let l : nodeCount w ≤ j = let a : ¬ (j < nodeCount w) = n in omega arith in rw (ltb-no l, f .unused-clear j l h) refl
+      go (yes l) = rw (lt-ltb _ _ l) refl
+      go (no n) = let l : nodeCount w ≤ j = let a : ¬ (j < nodeCount w) = n in omega arith in rw (le-ltb _ _ l, f .unused-clear j l h) refl
 
   links-slot : (b w′ b′ : List ℕ) (s : Bool) → isReference (kindAt w j) ≡ false → map (linked s) (linksFrom w b w′ b′ j) ≡ map (numbered s) (operands w j)
   links-slot b w′ b′ s e = go (decLt j (nodeCount w))
@@ -215,12 +210,12 @@ module _ (v b w c : List ℕ) (x : ℕ) (fv : Formed v) (fw : Formed w) (small :
     recorded-far : (u : ℕ) → 2048 < u → named (pairGraph v b w c) u ≡ []
     unfolding named pairGraph
     recorded-far zero h = refl
-    recorded-far (suc y) h = rw (ltb-no (let q : 2048 ≤ y = omega arith in q)) refl
+    recorded-far (suc y) h = rw (le-ltb _ _ (let q : 2048 ≤ y = omega arith in q)) refl
 
     recorded-near : (u : ℕ) → u ≢ 0 → u ≤ 2048 → named (pairGraph v b w c) u ≡ (u - 1) ∷ []
     unfolding named pairGraph
     recorded-near zero n h = absurd (n refl)
-    recorded-near (suc y) n h = rw (ltb-yes (let q : y < 2048 = omega arith in q)) (ap (λ (z : ℕ). z ∷ []) (let q : y ≡ suc y - 1 = omega arith in q))
+    recorded-near (suc y) n h = rw (lt-ltb _ _ (let q : y < 2048 = omega arith in q)) (ap (λ (z : ℕ). z ∷ []) (let q : y ≡ suc y - 1 = omega arith in q))
 
     pub count-none : t ≡ true → getD ta x 0 ≡ 0 → 0 ≡ length (led (pairGraph v b w c) (numbers ta) x)
     unfolding named
@@ -239,9 +234,9 @@ module _ (v b w c : List ℕ) (x : ℕ) (fv : Formed v) (fw : Formed w) (small :
     target-at (suc y) i h = go (decLt y 2048) i h
       where
         go : Dec (y < 2048) → (i : ℕ) → i < length (cond (ltb y 2048) (y ∷ []) []) → (1 ≤ suc y) × (suc y ≤ 2048) × (suc y - 1 ≡ getD (cond (ltb y 2048) (y ∷ []) []) i 0)
-        go (yes l) zero k = (omega arith, omega arith, rw (ltb-yes l) (omega arith))
-        go (yes l) (suc j) k = absurd (let z : suc j < 1 = rw (ltb-yes l) at k in let q : ⊥ = omega arith in q)
-        go (no n) j k = absurd (let l : 2048 ≤ y = let a : ¬ (y < 2048) = n in omega arith in let z : j < 0 = rw (ltb-no l) at k in let q : ⊥ = omega arith in q)
+        go (yes l) zero k = (omega arith, omega arith, rw (lt-ltb _ _ l) (omega arith))
+        go (yes l) (suc j) k = absurd (let z : suc j < 1 = rw (lt-ltb _ _ l) at k in let q : ⊥ = omega arith in q)
+        go (no n) j k = absurd (let l : 2048 ≤ y = let a : ¬ (y < 2048) = n in omega arith in let z : j < 0 = rw (le-ltb _ _ l) at k in let q : ⊥ = omega arith in q)
 
     pub to-some : (i : ℕ) → t ≡ true → i < length (led (pairGraph v b w c) (numbers ta) x) → (1 ≤ getD ta x 0) × (getD ta x 0 ≤ 2048)
     to-some i e h = let a = target-at (getD ta x 0) i (subst (λ (l : List ℕ). i < length l) (led-recorded e) h) in (a .0, a .1)
@@ -326,11 +321,11 @@ module _ (v b w c : List ℕ) (x : ℕ) (fv : Formed v) (fw : Formed w) (small :
 module _ (H : Graph) (x : ℕ) (ta fl : List ℕ) where
   pub need-none : getD fl x 0 ≡ 1 → 0 ≡ length (needed H (numbers ta) (raised fl) x)
   unfolding needed
-  need-none e = rw (eqb-yes e) refl
+  need-none e = rw (eq-eqb _ _ e) refl
 
   pub need-led : {r : ℕ} → getD fl x 0 ≢ 1 → r ≡ length (led H (numbers ta) x) → r ≡ length (needed H (numbers ta) (raised fl) x)
   unfolding needed
-  need-led n e = e ∙ rw (eqb-no n) refl
+  need-led n e = e ∙ rw (ne-eqb _ _ n) refl
 
 -- a node that needs any needs all that it leads to
 needed-led : (H : Graph) (x i : ℕ) (ta fl : List ℕ) → i < length (needed H (numbers ta) (raised fl) x) → needed H (numbers ta) (raised fl) x ≡ led H (numbers ta) x
@@ -350,10 +345,10 @@ needed-next H x i y ta fl h e = e ∙ sym (ap (λ (l : List ℕ). getD l i 0) (n
 -- ---- small facts of the counts
 
 pub below-yes : {k m x : ℕ} (y : ℕ) → k < m → x ≡ cond (ltb k m) x y
-below-yes y h = rw (ltb-yes h) refl
+below-yes y h = rw (lt-ltb _ _ h) refl
 
 pub below-no : {k m y : ℕ} (x : ℕ) → m ≤ k → y ≡ cond (ltb k m) x y
-below-no x h = rw (ltb-no h) refl
+below-no x h = rw (le-ltb _ _ h) refl
 
 pub arity-fits : (k : ℕ) {r : ℕ} → r ≡ arity k → r ≤ 3
 arity-fits k e = let a = arity-few k in omega arith

@@ -1,16 +1,18 @@
 -- Two well-formed ads give a sound graph. Assumes nothing.
 use mathlib.Core.Path.{_≡_, refl, sym, ap, _∙_, subst}
 use mathlib.Core.Logic.{_⊎_, inl, inr}
-use mathlib.Core.Bool.{Bool, true, false, cond, not, _&&_}
+use mathlib.Core.Bool.{Bool, true, false, cond, not, false≢true}
 use mathlib.Core.List.{List, [], _∷_, _++_, map}
 use Prim.Native.Nat.{ℕ, _+_, _-_, _≤_, _<_}
 use native.Mathlib.Decide.{decLt}
 use native.Mathlib.Omega.{arith}
 use lib.ListN.{length, length-map, length-append, length-take}
 use lib.Dec.{ltb}
+use borrow.Author.Tests.{le-ltb, lt-ltb, ltb-true}
+use Rattle.text.specs.Laws.Booleans.{and-left}
 use Rattle.syntax.specs.Bounds.{maxNodes}
 use Rattle.graph.specs.Members.{_∈_, here, there, Each}
-use Rattle.graph.specs.Laws.Members.{mem-nil, mem-cons, mem-append, ltb-yes, ltb-no, ltb-true, Sides, room-sides}
+use Rattle.graph.specs.Laws.Members.{mem-nil, mem-cons, mem-append, Sides, room-sides}
 use Rattle.graph.specs.Graph.{Graph, Node, Sound}
 use Rattle.ad.specs.Stored.{kindAt, nodeCount, definitionCount, isOwn, isOther, operands, nameAt, rootAt, find, rootsFrom}
 use Rattle.links.specs.Pair.{numbered, linked, inside, across, linksFrom, refersAt, both, rootsOf, requirements, rank, pairGraph, Formed}
@@ -21,11 +23,11 @@ use Rattle.links.specs.Laws.Counting.{nodes-few, roots-each, found-few, 
 module _ {A : Type 0} (p q : ℕ → A) where
   pub both-low : (x : ℕ) → x < maxNodes → both p q x ≡ p x
   unfolding both
-  both-low x h = rw (ltb-yes h) refl
+  both-low x h = rw (lt-ltb _ _ h) refl
 
   pub both-high : (x : ℕ) → maxNodes ≤ x → both p q x ≡ q (x - maxNodes)
   unfolding both
-  both-high x h = rw (ltb-no h) refl
+  both-high x h = rw (le-ltb _ _ h) refl
 
 -- a fact of each side's nodes is a fact of the pair's
 pub both-each : {A : Type 0} (P : ℕ → A → Type 0) (p q : ℕ → A) → ((x : ℕ) → x < maxNodes → P x (p x)) → ((x : ℕ) → P (maxNodes + x) (q x)) → (x : ℕ) → P x (both p q x)
@@ -37,13 +39,6 @@ both-each P p q f g x = go (decLt x maxNodes)
         let h : maxNodes ≤ x = let k : ¬ (x < maxNodes) = n in omega arith in
         let e : maxNodes + (x - maxNodes) ≡ x = omega arith in
         rw (both-high p q x h) (subst (λ (u : ℕ). P u (q (x - maxNodes))) e (g (x - maxNodes)))
-
-and-first : (a b : Bool) → (a && b) ≡ true → a ≡ true
-and-first true b e = refl
-and-first false b e = e
-
-never : false ≡ true → ⊥
-never e = let z : _≡_ {A = ℕ} 0 1 = cc in omega arith
 
 -- ---- one ad: its links stay in the two ads
 
@@ -62,9 +57,9 @@ module _ (w b w′ b′ : List ℕ) where
       go : (s : Bool) → ltb i (nodeCount w) ≡ s → (o : Bool) → isOwn (kindAt w i) ≡ o → (t : Bool) → isOther (kindAt w i) ≡ t →
           P i (cond s (cond o (map inside (find w b (nameAt w b i))) (cond t (map across (find w′ b′ (nameAt w b i))) (map inside (operands w i)))) [])
       go false a o c t d = e i
-      go true a true c t d = f i (ltb-true a) (rw (a, c) refl)
-      go true a false c true d = g i (ltb-true a) (rw (a, c, d) refl)
-      go true a false c false d = h i (ltb-true a) (rw (a, c, d) refl)
+      go true a true c t d = f i (ltb-true _ _ a) (rw (a, c) refl)
+      go true a false c true d = g i (ltb-true _ _ a) (rw (a, c, d) refl)
+      go true a false c false d = h i (ltb-true _ _ a) (rw (a, c, d) refl)
 
   operands-few : (i : ℕ) → length (operands w i) ≤ 3
   unfolding operands
@@ -82,7 +77,7 @@ module _ (w b w′ b′ : List ℕ) where
       links-each (λ i l. refersAt w i ≡ true → length l ≤ 1) (λ i e. omega arith)
       (λ i h r e. rw (length-map (find w b (nameAt w b i)) inside) (found-few w b (nameAt w b i)))
       (λ i h r e. rw (length-map (find w′ b′ (nameAt w b i)) across) (found-few w′ b′ (nameAt w b i)))
-      (λ i h r e. absurd (never (sym r ∙ e)))
+      (λ i h r e. absurd (false≢true (sym r ∙ e)))
 
   module _ (s : Bool) where
     inside-each : (Q : ℕ → Type 0) (l : List ℕ) → ((y : ℕ) → y ∈ l → Q (numbered s y)) → Each Q (map (linked s) (map inside l))
@@ -105,8 +100,8 @@ module _ (w b w′ b′ : List ℕ) where
     falls-each : Formed w → (i : ℕ) → refersAt w i ≡ false → Each (λ y. y < numbered s i) (map (linked s) (linksFrom w b w′ b′ i))
     falls-each fw =
         links-each (λ i l. refersAt w i ≡ false → Each (λ y. y < numbered s i) (map (linked s) l)) (λ i e y m. absurd (mem-nil m))
-        (λ i h r e. absurd (never (sym e ∙ r)))
-        (λ i h r e. absurd (never (sym e ∙ r)))
+        (λ i h r e. absurd (false≢true (sym e ∙ r)))
+        (λ i h r e. absurd (false≢true (sym e ∙ r)))
         (λ i h r e. inside-each (λ y. y < numbered s i) (operands w i) (λ y m. up s i y (fw .operands-below i h y m)))
       where
         up : (s : Bool) (i y : ℕ) → y < i → numbered s y < numbered s i
@@ -130,12 +125,12 @@ module _ (v b w c : List ℕ) (fv : Formed v) (fw : Formed w) where
 
   first-node : (y : ℕ) → y < nodeCount v → Node G (numbered false y)
   unfolding pairGraph
-  first-node y h = both-low _ _ y (let a = nodes-few v in omega arith) ∙ ltb-yes h
+  first-node y h = both-low _ _ y (let a = nodes-few v in omega arith) ∙ lt-ltb _ _ h
 
   second-node : (y : ℕ) → y < nodeCount w → Node G (numbered true y)
   unfolding pairGraph
   second-node y h =
-      both-high _ _ (maxNodes + y) (omega arith) ∙ ap (λ (u : ℕ). ltb u (nodeCount w)) (let q : (maxNodes + y) - maxNodes ≡ y = omega arith in q) ∙ ltb-yes h
+      both-high _ _ (maxNodes + y) (omega arith) ∙ ap (λ (u : ℕ). ltb u (nodeCount w)) (let q : (maxNodes + y) - maxNodes ≡ y = omega arith in q) ∙ lt-ltb _ _ h
 
   -- a node is one of the first ad's, or one of the second's
   pub node-sides : (x : ℕ) → Node G x → Sides (nodeCount v) maxNodes (nodeCount w) x
@@ -143,10 +138,10 @@ module _ (v b w c : List ℕ) (fv : Formed v) (fw : Formed w) where
   node-sides x e = go (decLt x maxNodes)
     where
       go : Dec (x < maxNodes) → Sides (nodeCount v) maxNodes (nodeCount w) x
-      go (yes h) = inl (ltb-true (sym (both-low _ _ x h) ∙ e))
+      go (yes h) = inl (ltb-true _ _ (sym (both-low _ _ x h) ∙ e))
       go (no n) =
           let h : maxNodes ≤ x = let k : ¬ (x < maxNodes) = n in omega arith in
-          let q : x - maxNodes < nodeCount w = ltb-true (sym (both-high _ _ x h) ∙ e) in
+          let q : x - maxNodes < nodeCount w = ltb-true _ _ (sym (both-high _ _ x h) ∙ e) in
           inr (h, omega arith)
 
   sound-nth-in : (i : ℕ) → i < nodeCount v + nodeCount w → Node G (G .nth i)
@@ -154,20 +149,20 @@ module _ (v b w c : List ℕ) (fv : Formed v) (fw : Formed w) where
   sound-nth-in i h = go (decLt i (nodeCount v))
     where
       go : Dec (i < nodeCount v) → Node G (cond (ltb i (nodeCount v)) i (maxNodes + (i - nodeCount v)))
-      go (yes k) = rw (ltb-yes k) (first-node i k)
+      go (yes k) = rw (lt-ltb _ _ k) (first-node i k)
       go (no n) =
           let k : nodeCount v ≤ i = let a : ¬ (i < nodeCount v) = n in omega arith in
-          rw (ltb-no k) (second-node (i - nodeCount v) (omega arith))
+          rw (le-ltb _ _ k) (second-node (i - nodeCount v) (omega arith))
 
   sound-nth-all : (x : ℕ) → Node G x → (i : ℕ) × (i < nodeCount v + nodeCount w) × (G .nth i ≡ x)
   unfolding pairGraph
   sound-nth-all x e = go (node-sides x e)
     where
       go : Sides (nodeCount v) maxNodes (nodeCount w) x → (i : ℕ) × (i < nodeCount v + nodeCount w) × (cond (ltb i (nodeCount v)) i (maxNodes + (i - nodeCount v)) ≡ x)
-      go (inl h) = (x, omega arith, rw (ltb-yes h) refl)
+      go (inl h) = (x, omega arith, rw (lt-ltb _ _ h) refl)
       go (inr (h, k)) =
           let a : nodeCount v ≤ nodeCount v + (x - maxNodes) = omega arith in
-          (nodeCount v + (x - maxNodes), omega arith, rw (ltb-no a) (let q : maxNodes + ((nodeCount v + (x - maxNodes)) - nodeCount v) ≡ x = omega arith in q))
+          (nodeCount v + (x - maxNodes), omega arith, rw (le-ltb _ _ a) (let q : maxNodes + ((nodeCount v + (x - maxNodes)) - nodeCount v) ≡ x = omega arith in q))
 
   sound-in-slots : (x : ℕ) → Node G x → x < maxNodes + maxNodes
   sound-in-slots x e = go (node-sides x e)
@@ -209,10 +204,10 @@ module _ (v b w c : List ℕ) (fv : Formed v) (fw : Formed w) where
   sound-refs-in x e = go (decLt x maxNodes)
     where
       go : Dec (x < maxNodes) → both (λ i. ltb i (nodeCount v)) (λ i. ltb i (nodeCount w)) x ≡ true
-      go (yes h) = both-low _ _ x h ∙ and-first _ _ (sym (both-low _ _ x h) ∙ e)
+      go (yes h) = both-low _ _ x h ∙ and-left _ _ (sym (both-low _ _ x h) ∙ e)
       go (no n) =
           let h : maxNodes ≤ x = let k : ¬ (x < maxNodes) = n in omega arith in
-          both-high _ _ x h ∙ and-first _ _ (sym (both-high _ _ x h) ∙ e)
+          both-high _ _ x h ∙ and-left _ _ (sym (both-high _ _ x h) ∙ e)
 
   append-each : (l m : List ℕ) → Each (Node G) l → Each (Node G) m → Each (Node G) (l ++ m)
   append-each l m f g x k = go (mem-append l k)

@@ -1,12 +1,8 @@
-use mathlib.Core.Path.{_≡_, sym, _∙_}
+use mathlib.Core.Path.{sym, _∙_}
 use Rattle.lookahead.proofs.Laws.{binary-absent, binary-here}
 use borrow.Author.Needs.{needs}
 use Rattle.lookahead.proofs.binary_at.Statement.{statement}
 use Rattle.lookahead.proofs.binary_at.Tie as tie
-use Rattle.lookahead.proofs.binary_at.Reads as reads
-use Rattle.lookahead.proofs.binary_at.Lts as lts
-use Rattle.lexer.proofs.token_at.Reads as token-at-reads
-use Rattle.lookahead.proofs.binds.Reads as binds-reads
 
 returns : tie.Need-returns
 returns c =

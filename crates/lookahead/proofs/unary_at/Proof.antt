@@ -1,14 +1,9 @@
-use mathlib.Core.Path.{_≡_, sym, _∙_}
+use mathlib.Core.Path.{sym, _∙_}
 use Rattle.syntax.specs.declared.Unary.the-variants.{Not, Plus, Minus}
 use Rattle.lookahead.proofs.Laws.{unary-absent, unary-operator, unary-sign}
 use borrow.Author.Needs.{needs}
 use Rattle.lookahead.proofs.unary_at.Statement.{statement}
 use Rattle.lookahead.proofs.unary_at.Tie as tie
-use Rattle.lookahead.proofs.unary_at.Reads as reads
-use Rattle.lookahead.proofs.unary_at.Lts as lts
-use Rattle.lexer.proofs.token_at.Reads as token-at-reads
-use Rattle.lookahead.proofs.operator_code.Reads as operator-code-reads
-use Rattle.lookahead.proofs.symbol_code.Reads as symbol-code-reads
 
 returns : tie.Need-returns
 returns c =

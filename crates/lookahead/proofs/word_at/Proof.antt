@@ -2,9 +2,6 @@ use Rattle.lookahead.proofs.Laws.{word-absent, word-here}
 use borrow.Author.Needs.{needs}
 use Rattle.lookahead.proofs.word_at.Statement.{statement}
 use Rattle.lookahead.proofs.word_at.Tie as tie
-use Rattle.lookahead.proofs.word_at.Reads as reads
-use Rattle.lookahead.proofs.word_at.Lts as lts
-use Rattle.lexer.proofs.token_at.Reads as token-at-reads
 
 returns : tie.Need-returns
 returns c =

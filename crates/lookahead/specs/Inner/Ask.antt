@@ -8,7 +8,6 @@ use lib.Seq.{slice}
 use Rattle.syntax.specs.Token.{Token, word, constant, operator, symbol, Tokens, next, end, bad}
 use Rattle.syntax.specs.Grammar.{bindsOf, unaryToken}
 use Rattle.syntax.specs.Reader.{isToken}
-use Rattle.syntax.specs.declared.Binary.{Binary}
 use Rattle.syntax.specs.declared.Unary.{Unary}
 use Rattle.syntax.specs.declared.Symbol.{Symbol}
 use Rattle.lexer.specs.Inner.Meaning.{tokensAt}

@@ -1,9 +1,8 @@
 use denote.Ref.{now}
 use mathlib.Core.Path.{refl, sym, _∙_}
 use lib.Seq.{length-take-le}
-use lib.ListN.{take}
 use Rattle.matching.proofs.Whole.{rooms, not-true, not-false}
-use Rattle.matching.specs.Laws.Wells.{formed-of}
+use Rattle.admission.specs.Laws.Wells.{formed-of}
 use Rattle.matching.specs.Matching.{no-room, first-malformed, second-malformed, matches}
 use borrow.Author.Needs.{needs}
 use Rattle.matching.proofs.match_ads.Statement.{statement}

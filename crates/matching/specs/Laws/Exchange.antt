@@ -7,11 +7,11 @@ use mathlib.Core.Bool.{Bool, true, false, cond, not, _&&_}
 use mathlib.Core.List.{List, [], _∷_, map}
 use lib.ListN.{length}
 use lib.Dec.{eqb, ltb}
+use borrow.Author.Tests.{le-ltb, lt-ltb}
 use Rattle.syntax.specs.Bounds.{maxNodes}
 use Rattle.ad.specs.Stored.{kindAt, operandAt, arity, unaryOf, binaryOf, isReference, operands, nameAt, find}
 use Rattle.graph.specs.Members.{_∈_, here, there, Each}
-use Rattle.graph.specs.Laws.Members.{ltb-yes, ltb-no}
-use Rattle.graph.specs.Graph.{Graph, Node, Flags, needs}
+use Rattle.graph.specs.Graph.{Node, Flags, needs}
 use Rattle.links.specs.Pair.{numbered, linked, inside, across, linksFrom, refersAt, both, rootsOf, requirements, rank, pairGraph, Formed}
 use Rattle.links.specs.Laws.Counting.{nodes-few, found-root}
 use Rattle.links.specs.Laws.Soundness.{both-low, both-high, root-in, links-each, pair-sound}
@@ -47,11 +47,11 @@ swap x = cond (ltb x maxNodes) (maxNodes + x) (x - maxNodes)
 
 swap-low : (x : ℕ) → x < maxNodes → swap x ≡ maxNodes + x
 unfolding swap
-swap-low x h = rw (ltb-yes h) refl
+swap-low x h = rw (lt-ltb _ _ h) refl
 
 swap-high : (x : ℕ) → maxNodes ≤ x → swap x ≡ x - maxNodes
 unfolding swap
-swap-high x h = rw (ltb-no h) refl
+swap-high x h = rw (le-ltb _ _ h) refl
 
 swap-numbered : (s : Bool) (y : ℕ) → y < maxNodes → swap (numbered s y) ≡ numbered (not s) y
 swap-numbered true y h = swap-high (maxNodes + y) (omega arith) ∙ (let e : (maxNodes + y) - maxNodes ≡ y = omega arith in e)
@@ -185,12 +185,6 @@ rank-turned (String s o n) = refl
 -- ---- the graph
 
 module _ (v b w c : List ℕ) (f : Formed v) (g : Formed w) where
-  abbrev G : Graph
-  G = pairGraph v b w c
-
-  abbrev G′ : Graph
-  G′ = pairGraph w c v b
-
   small : (x : ℕ) → Node (pairGraph v b w c) x → x < maxNodes + maxNodes
   unfolding pairGraph
   small x n = pair-sound v b w c f g .in-slots x n

@@ -11,7 +11,8 @@ use Rattle.graph.specs.Graph.{Graph, needs, Entered}
 use Rattle.graph.specs.Laws.Order.{entered-unique}
 use Rattle.links.specs.Pair.{pairGraph}
 use Rattle.evaluation.specs.Evaluation.{ruleAt, stepsWords}
-use Rattle.matching.specs.Matching.{Concluded, Counted, Match, tableWords, listWords, Matched, no-room, first-malformed, second-malformed, matches}
+use Rattle.matching.specs.Matching.{Concluded, Counted, Match, tableWords, Matched, no-room, first-malformed, second-malformed, matches}
+use Rattle.admission.specs.Admission.{listWords}
 use Rattle.matching.specs.Laws.Concluding.{flags-same, worth-unique}
 use Rattle.matching.specs.declared.Outcome.{Outcome}
 use Rattle.matching.specs.declared.Outcome.the-variants.{Unfinished}
@@ -23,7 +24,7 @@ pub record Same (table list : List ℕ) (r : Outcome) (table′ list′ : List �
   pub answers : r ≡ r′
 
 -- the transitions are counted exactly
-count-one : (G : Graph) (i j : ℕ) → Counted G i → Counted G j → i ≡ j
+pub count-one : (G : Graph) (i j : ℕ) → Counted G i → Counted G j → i ≡ j
 count-one G i j p q = go (decLt i j) (decLt j i)
   where
     go : Dec (i < j) → Dec (j < i) → i ≡ j

@@ -1,5 +1,4 @@
 use Prim.Native.Nat.{_-_}
-use native.Mathlib.Omega.{arith}
 use lib.ListN.{length}
 use Rattle.names.proofs.Folding.{Folding, folding-first, folding-next, folding-end}
 use borrow.Author.Needs.{needs}

@@ -1,30 +1,23 @@
 -- Names that match have one fingerprint. Assumes nothing.
 use mathlib.Core.Path.{_≡_, refl, ap, _∙_}
 use mathlib.Core.Logic.{_≢_}
-use mathlib.Core.Bool.{Bool, true, false, _&&_}
+use mathlib.Core.Bool.{Bool, true, false, false≢true}
 use mathlib.Core.List.{List, [], _∷_, map}
 use Prim.Native.Nat.{ℕ, _+_, _*_, _%_}
-use native.Mathlib.Omega.{arith}
 use lib.Dec.{eqb}
 use borrow.Author.Tests.{eqb-true}
+use Rattle.text.specs.Laws.Booleans.{both}
 use Rattle.text.specs.Bytes.{lowerCase}
 use Rattle.text.specs.Strings.{sameBytes, sameName}
 use Rattle.names.specs.Inner.Fingerprint.{mixed, folded, fingerprintOf}
 
-never : false ≡ true → ⊥
-never e = let z : _≡_ {A = ℕ} 0 1 = cc in omega arith
-
-and-both : (a b : Bool) → (a && b) ≡ true → (a ≡ true) × (b ≡ true)
-and-both true b e = (refl, e)
-and-both false b e = absurd (never e)
-
 same-folded : (h : ℕ) (x y : List ℕ) → sameBytes (map lowerCase x) (map lowerCase y) ≡ true → folded h x ≡ folded h y
 unfolding sameBytes folded mixed
 same-folded h [] [] e = refl
-same-folded h [] (c ∷ y) e = absurd (never e)
-same-folded h (b ∷ x) [] e = absurd (never e)
+same-folded h [] (c ∷ y) e = absurd (false≢true e)
+same-folded h (b ∷ x) [] e = absurd (false≢true e)
 same-folded h (b ∷ x) (c ∷ y) e =
-    let q = and-both (eqb (lowerCase b) (lowerCase c)) (sameBytes (map lowerCase x) (map lowerCase y)) e in
+    let q = both (eqb (lowerCase b) (lowerCase c)) (sameBytes (map lowerCase x) (map lowerCase y)) e in
     ap (λ (u : ℕ). folded ((h * 31 + u) % 65536) x) (eqb-true _ _ (q .0)) ∙ same-folded ((h * 31 + lowerCase c) % 65536) x y (q .1)
 
 -- NAMES THAT MATCH HAVE ONE FINGERPRINT

@@ -3,10 +3,7 @@ use Prim.Native.Nat.{ℕ, _%_, _^_, _≤_, _<_}
 use native.Mathlib.Omega.{arith}
 use mathlib.Core.Path.{_≡_, refl, ap, ap₂}
 use mathlib.Core.Bool.{Bool, true, false, cond, _&&_}
-use mathlib.Core.List.{List}
 use lib.ListN.{length, getD}
-use lib.Dec.{ltb}
-use lib.Ieee.{Float}
 use borrow.Author.Tests.{lt-ltb, le-leb}
 use Rattle.syntax.specs.Bounds.{maxInteger}
 use Rattle.syntax.specs.Tree.{Literal, undefined, error, boolean, integer, real, string, Scope, own, other}
@@ -17,10 +14,8 @@ use Rattle.syntax.specs.declared.Unary.the-variants.{Not, Plus, Minus}
 use Rattle.ad.specs.Layout.{literalNode, unaryKind, binaryKind, scopeKind}
 use Rattle.ad.specs.Stored.{arity, unaryOf, binaryOf}
 use Rattle.reals.specs.Reals.{literalReal, storedReal}
-use Rattle.values.specs.declared.Value.{Value}
 use Rattle.values.specs.declared.Value.the-variants.{Integer, Real, String}
 use Rattle.nodes.specs.Nodes.{literalValue, nodeOf}
-use Rattle.nodes.specs.declared.Node.{Node}
 use Rattle.nodes.specs.declared.Node.the-variants.{Constant, Reference, OfOne, OfTwo, Conditional}
 
 -- the bounds of a literal, whose string is stored from byte o on

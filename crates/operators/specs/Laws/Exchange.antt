@@ -15,7 +15,7 @@ use Rattle.values.specs.declared.Value.the-variants.{Undefined, Error, Boolean,
 use Rattle.values.specs.Values.{bytesAt, turned}
 use Rattle.logic.specs.declared.Truth.{Truth}
 use Rattle.logic.specs.declared.Truth.the-variants as truth
-use Rattle.logic.specs.Logic.{truthOf, row, andTable, orTable, andValue, orValue, notValue, conditionalValue}
+use Rattle.logic.specs.Logic.{truthOf, row, andTable, orTable, conditionalValue}
 use Rattle.identity.specs.Identity.{sameUndefined, sameError, sameBoolean, sameInteger, sameReal, sameString, sameValue}
 use Rattle.operands.specs.declared.Operands.{Operands}
 use Rattle.operands.specs.declared.Operands.the-variants.{Refused, Missing, Integers, Reals, Strings}

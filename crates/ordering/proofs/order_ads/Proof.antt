@@ -1,7 +1,7 @@
 use denote.Ref.{now}
 use mathlib.Core.Path.{refl, sym, _∙_}
 use lib.Seq.{length-take-le}
-use Rattle.matching.specs.Laws.Wells.{formed-of}
+use Rattle.admission.specs.Laws.Wells.{formed-of}
 use Rattle.matching.proofs.Whole.{rooms, not-true, not-false}
 use Rattle.ordering.specs.Ordering.{no-room, first-malformed, second-malformed, orders}
 use borrow.Author.Needs.{needs}

@@ -1,16 +1,10 @@
 use mathlib.Core.Path.{_∙_, ap}
-use Prim.Native.Nat.{_-_}
 use Rattle.printer.proofs.Trees.{binds-leaf, binds-unary, binds-conditional, binds-binary}
 use Rattle.syntax.specs.Grammar.{bindsOf}
 use Rattle.printer.specs.Inner.Post.{bindsKind}
 use borrow.Author.Needs.{needs}
 use Rattle.printer.proofs.binding.Statement.{statement}
 use Rattle.printer.proofs.binding.Tie as tie
-use Rattle.printer.proofs.binding.Reads as reads
-use Rattle.printer.proofs.binding.Lts as lts
-use Rattle.ad.proofs.binary_of.Reads as binary-of-reads
-use Rattle.ad.proofs.kind.Reads as kind-reads
-use Rattle.lookahead.proofs.binds.Reads as binds-reads
 
 returns : tie.Need-returns
 returns c = binds-leaf (c .before .kind .result) (c .if1 .taken) ∙ ap bindsKind (c .before .kind .ensures)

@@ -1,14 +1,10 @@
 use mathlib.Core.Path.{sym}
-use Prim.Native.Nat.{_-_}
 use lib.Seq.{length-take-le}
 use Rattle.syntax.specs.Print.{printedAd}
 use Rattle.printer.proofs.Ads.{small-words, small-bytes, prints-front}
 use borrow.Author.Needs.{needs}
 use Rattle.printer.proofs.print.Statement.{statement}
 use Rattle.printer.proofs.print.Tie as tie
-use Rattle.printer.proofs.print.Reads as reads
-use Rattle.printer.proofs.print.Lts as lts
-use Rattle.printer.proofs.print_room.Reads as print-room-reads
 
 returns : tie.Need-returns
 returns c =

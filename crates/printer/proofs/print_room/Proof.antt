@@ -1,13 +1,8 @@
-use Prim.Native.Nat.{_-_}
 use Rattle.syntax.specs.Print.{printedAd}
 use Rattle.printer.proofs.Ads.{print-malformed, print-long, print-longer, print-fits, print-text}
 use borrow.Author.Needs.{needs}
 use Rattle.printer.proofs.print_room.Statement.{statement}
 use Rattle.printer.proofs.print_room.Tie as tie
-use Rattle.printer.proofs.print_room.Reads as reads
-use Rattle.printer.proofs.print_room.Lts as lts
-use Rattle.printer.proofs.put_ad.Reads as put-ad-reads
-use Rattle.well_formed.proofs.check.Reads as check-reads
 
 returns : tie.Need-returns
 returns c =

@@ -1,17 +1,7 @@
-use mathlib.Core.Path.{_≡_, refl, sym, _∙_, ap, subst}
-use mathlib.Core.List.{List, [], _∷_, _++_}
-use Prim.Native.Nat.{ℕ, zero, suc, _+_, _-_, _*_, _≤_, _<_}
-use lib.ListN.{length, length-append}
 use Rattle.printer.proofs.Ads.{opened, closing-near, ad-written}
-use native.Mathlib.Omega.{arith}
 use borrow.Author.Needs.{needs}
 use Rattle.printer.proofs.put_ad.Statement.{statement}
 use Rattle.printer.proofs.put_ad.Tie as tie
-use Rattle.printer.proofs.put_ad.Reads as reads
-use Rattle.printer.proofs.put_ad.Lts as lts
-use Rattle.printer.proofs.put_definitions.Reads as put-definitions-reads
-use Rattle.writer.proofs.put.Reads as put-reads
-use Rattle.writer.proofs.put_byte.Reads as put-byte-reads
 
 put-definitions-requires : tie.Need-put-definitions-requires
 put-definitions-requires c κs =

@@ -1,4 +1,3 @@
-use Prim.Native.Nat.{_-_}
 use Rattle.syntax.specs.Print.{literalText}
 use Rattle.text.specs.Bytes.{bytes}
 use borrow.Author.Tests.{ne-eqb}
@@ -6,9 +5,6 @@ use native.Mathlib.Omega.{arith}
 use borrow.Author.Needs.{needs}
 use Rattle.printer.proofs.put_boolean.Statement.{statement}
 use Rattle.printer.proofs.put_boolean.Tie as tie
-use Rattle.printer.proofs.put_boolean.Reads as reads
-use Rattle.printer.proofs.put_boolean.Lts as lts
-use Rattle.writer.proofs.put.Reads as put-reads
 
 put-requires : tie.Need-put-requires
 unfolding literalText bytes

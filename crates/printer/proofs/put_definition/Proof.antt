@@ -1,6 +1,6 @@
 use mathlib.Core.Path.{_∙_, ap}
 use mathlib.Core.List.{List}
-use Prim.Native.Nat.{ℕ, _+_, _-_}
+use Prim.Native.Nat.{ℕ, _+_}
 use lib.ListN.{length}
 use Rattle.text.specs.Bytes.{bytes}
 use Rattle.writer.proofs.Laws.{puts-as}
@@ -10,14 +10,6 @@ use Rattle.ad.specs.Stored.{rootAt, bytesAt}
 use borrow.Author.Needs.{needs}
 use Rattle.printer.proofs.put_definition.Statement.{statement}
 use Rattle.printer.proofs.put_definition.Tie as tie
-use Rattle.printer.proofs.put_definition.Reads as reads
-use Rattle.printer.proofs.put_definition.Lts as lts
-use Rattle.ad.proofs.name_length.Reads as name-length-reads
-use Rattle.ad.proofs.offset.Reads as offset-reads
-use Rattle.ad.proofs.part.Reads as part-reads
-use Rattle.ad.proofs.root.Reads as root-reads
-use Rattle.printer.proofs.put_tree.Reads as put-tree-reads
-use Rattle.writer.proofs.put.Reads as put-reads
 
 offset-requires : tie.Need-offset-requires
 offset-requires c κs = (c .before .before .before .pre .few, c .before .before .before .pre .words)

@@ -1,6 +1,6 @@
 use mathlib.Core.Path.{sym, _∙_, ap}
 use mathlib.Core.List.{List, _++_}
-use Prim.Native.Nat.{ℕ, _+_, _-_}
+use Prim.Native.Nat.{ℕ}
 use lib.ListN.{length, length-append}
 use Rattle.syntax.specs.Print.{literalText}
 use Rattle.text.specs.Bytes.{bytes}
@@ -12,16 +12,6 @@ use native.Mathlib.Omega.{arith}
 use borrow.Author.Needs.{needs}
 use Rattle.printer.proofs.put_leaf.Statement.{statement}
 use Rattle.printer.proofs.put_leaf.Tie as tie
-use Rattle.printer.proofs.put_leaf.Reads as reads
-use Rattle.printer.proofs.put_leaf.Lts as lts
-use Rattle.ad.proofs.kind.Reads as kind-reads
-use Rattle.ad.proofs.operand.Reads as operand-reads
-use Rattle.ad.proofs.part.Reads as part-reads
-use Rattle.printer.proofs.put_boolean.Reads as put-boolean-reads
-use Rattle.writer.proofs.put.Reads as put-reads
-use Rattle.writer.proofs.put_decimal.Reads as put-decimal-reads
-use Rattle.writer.proofs.put_real.Reads as put-real-reads
-use Rattle.writer.proofs.put_string.Reads as put-string-reads
 
 put-requires : tie.Need-put-requires
 unfolding literalText bytes

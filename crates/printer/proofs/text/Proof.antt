@@ -1,13 +1,9 @@
 use mathlib.Core.Path.{refl, sym}
-use Prim.Native.Nat.{_-_}
 use lib.Seq.{length-take-le}
 use Rattle.printer.proofs.Ads.{text-back, none-back}
 use borrow.Author.Needs.{needs}
 use Rattle.printer.proofs.text.Statement.{statement}
 use Rattle.printer.proofs.text.Tie as tie
-use Rattle.printer.proofs.text.Reads as reads
-use Rattle.printer.proofs.text.Lts as lts
-use Rattle.printer.proofs.print.Reads as print-reads
 
 slice-aggregate-result : tie.Need-slice-aggregate-result
 slice-aggregate-result c =

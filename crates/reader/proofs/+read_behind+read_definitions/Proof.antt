@@ -1,7 +1,7 @@
 use borrow.Author.Needs.{needs}
 use native.Mathlib.Omega.{arith}
-use mathlib.Core.Path.{_≡_, refl, sym, _∙_, ap}
-use Prim.Native.Nat.{_+_, _-_, _*_, _≤_}
+use mathlib.Core.Path.{_≡_}
+use Prim.Native.Nat.{_-_}
 use lib.ListN.{length}
 use Rattle.leaves.specs.Inner.Marks.{mark, memory}
 use Rattle.reader.proofs.Laws.{definitions-close, definitions-none, definitions-refused, definitions-more, behind-more, behind-close, behind-none}

@@ -2,9 +2,6 @@ use Rattle.reader.proofs.Laws.{end-here, end-bad, end-more}
 use borrow.Author.Needs.{needs}
 use Rattle.reader.proofs.end_at.Statement.{statement}
 use Rattle.reader.proofs.end_at.Tie as tie
-use Rattle.reader.proofs.end_at.Reads as reads
-use Rattle.reader.proofs.end_at.Lts as lts
-use Rattle.lexer.proofs.token_at.Reads as token-at-reads
 
 returns : tie.Need-returns
 returns c =

@@ -4,10 +4,6 @@ use Rattle.reader.proofs.Laws.{ad-none, ad-read}
 use borrow.Author.Needs.{needs}
 use Rattle.reader.proofs.read_ad.Statement.{statement}
 use Rattle.reader.proofs.read_ad.Tie as tie
-use Rattle.reader.proofs.read_ad.Reads as reads
-use Rattle.reader.proofs.read_ad.Lts as lts
-use Rattle.lookahead.proofs.symbol_at.Reads as symbol-at-reads
-use Rattle.reader.proofs.read_definitions.Reads as read-definitions-reads
 
 read-definitions-requires : tie.Need-read-definitions-requires
 read-definitions-requires c κs =

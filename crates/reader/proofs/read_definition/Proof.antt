@@ -1,6 +1,5 @@
 use native.Mathlib.Omega.{arith}
-use mathlib.Core.Path.{_≡_, refl, sym, _∙_, ap}
-use Prim.Native.Nat.{_+_, _-_, _≤_}
+use mathlib.Core.Path.{_≡_, sym, _∙_}
 use lib.ListN.{length}
 use Rattle.leaves.specs.Inner.Marks.{mark, memory}
 use Rattle.leaves.proofs.Laws.{fewer-left}
@@ -10,13 +9,6 @@ use Rattle.reader.proofs.Laws.{definition-twice, definition-many, defin
 use borrow.Author.Needs.{needs}
 use Rattle.reader.proofs.read_definition.Statement.{statement}
 use Rattle.reader.proofs.read_definition.Tie as tie
-use Rattle.reader.proofs.read_definition.Reads as reads
-use Rattle.reader.proofs.read_definition.Lts as lts
-use Rattle.ad.proofs.copy.Reads as copy-reads
-use Rattle.ad.proofs.store_definition.Reads as store-definition-reads
-use Rattle.expressions.proofs.read_conditional.Reads as read-conditional-reads
-use Rattle.lookahead.proofs.symbol_at.Reads as symbol-at-reads
-use Rattle.ad.proofs.defined.Reads as defined-reads
 
 returns : tie.Need-returns
 returns c =

@@ -1,14 +1,8 @@
-use mathlib.Core.Path.{_≡_, refl, sym, _∙_, ap}
+use mathlib.Core.Path.{_∙_}
 use Rattle.reader.proofs.Whole.{into-ad, into-none, cleared}
 use borrow.Author.Needs.{needs}
 use Rattle.reader.proofs.read_into.Statement.{statement}
 use Rattle.reader.proofs.read_into.Tie as tie
-use Rattle.reader.proofs.read_into.Reads as reads
-use Rattle.reader.proofs.read_into.Lts as lts
-use Rattle.ad.proofs.clear_bytes.Reads as clear-bytes-reads
-use Rattle.ad.proofs.clear_words.Reads as clear-words-reads
-use Rattle.reader.proofs.read_ad.Reads as read-ad-reads
-use Rattle.reader.proofs.refuse.Reads as refuse-reads
 
 returns : tie.Need-returns
 returns c =

@@ -1,10 +1,6 @@
 use borrow.Author.Needs.{needs}
 use Rattle.reader.proofs.refuse.Statement.{statement}
 use Rattle.reader.proofs.refuse.Tie as tie
-use Rattle.reader.proofs.refuse.Reads as reads
-use Rattle.reader.proofs.refuse.Lts as lts
-use Rattle.ad.proofs.clear_bytes.Reads as clear-bytes-reads
-use Rattle.ad.proofs.clear_words.Reads as clear-words-reads
 
 -- the prover finds this by itself; it stands here so that a reader that forgets to clear is refused by this fact
 returns : tie.Need-returns

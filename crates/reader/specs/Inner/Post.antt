@@ -1,13 +1,13 @@
 -- What the readers of definitions ensure. s is the text. Assumes nothing.
-use Prim.Native.Nat.{ℕ, _+_, _*_, _≤_, _<_}
+use Prim.Native.Nat.{ℕ, _+_, _≤_, _<_}
 use mathlib.Core.Path.{_≡_}
 use mathlib.Core.List.{List, [], _∷_, _++_}
-use lib.ListN.{length, drop}
+use lib.ListN.{length}
 use lib.Seq.{sets, slice}
-use Rattle.syntax.specs.Tree.{Expr, Definition, Ad, size, nodes}
+use Rattle.syntax.specs.Tree.{Expr, Ad, size, nodes}
 use Rattle.syntax.specs.Token.{Tokens, symbol, end}
 use Rattle.syntax.specs.Reader as R
-use Rattle.syntax.specs.Reader.{limits, conditionalAt, afterA, wantA, endA, admit, enough, definitionsAt, behindAt, adAt}
+use Rattle.syntax.specs.Reader.{limits, conditionalAt, afterA, wantA, endA, admit, enough, definitionsAt, behindAt}
 use Rattle.syntax.specs.declared.Symbol.the-variants.{Assign}
 use Rattle.lexer.specs.Inner.Meaning.{tokensAt}
 use Rattle.ad.specs.Layout.{adNodes, adDefinitions, adBytes}

@@ -2,12 +2,13 @@
 use Prim.Native.Nat.{ℕ, zero, suc, _+_, _-_, _≤_}
 use Prim.Native.Char.{code}
 use native.Mathlib.Omega.{arith}
-use mathlib.Core.Path.{_≡_, refl, sym}
-use mathlib.Core.Bool.{Bool, true, false, true≢false}
+use mathlib.Core.Path.{_≡_, refl}
+use mathlib.Core.Bool.{Bool, true, false}
 use mathlib.Core.List.{List, [], _∷_, _++_}
 use lib.ListN.{length, drop, length-append, length-drop}
 use lib.Dec.{ltb, eqb}
 use borrow.Author.Tests.{eqb-false}
+use Rattle.syntax.specs.Laws.Marks.{begins-short}
 use Rattle.text.specs.Bytes.{bytes, between, isBlank, isDigit, startsName, continuesName}
 use Rattle.text.specs.Strings.{sameName}
 use Rattle.syntax.specs.Bounds.{nameBytes, stringBytes, maxInteger, realDigits}
@@ -16,7 +17,7 @@ use Rattle.syntax.specs.Token.{Token, word, constant, operator, symbol, Tokens,
 use Rattle.syntax.specs.Grammar.{Reads, reads-literal, reads-own, reads-other, reads-parentheses, reads-unary, reads-binary, reads-conditional, reads-tighter, Defines, defines-one, defines-more, IsAd, ad-empty, ad-plain, ad-trailing, Follows, none, some}
 use Rattle.syntax.specs.Reader.{accepted, parse}
 use Rattle.syntax.specs.Laws.Accepts.{accepts}
-use Rattle.syntax.specs.Laws.Codes.{on-pick, both}
+use Rattle.syntax.specs.Laws.Codes.{on-pick}
 use Rattle.syntax.specs.declared.Symbol.the-variants.{Question, Colon, CloseParenthesis, CloseBracket, Semicolon}
 use Rattle.ad.specs.Layout.{literalBytes, exprBytes, adBytes}
 use Rattle.round_trip.specs.Laws.Written.{digit-front}
@@ -128,12 +129,6 @@ string-takes : (n : ℕ) (x : Body) → BodyTakes n x → Takes (suc n) (stringO
 unfolding bytesOf literalBytes
 string-takes n (closed xs k) h = on-pick (Takes (suc n)) (ltb stringBytes (length xs)) _ _ (λ _. tt) (λ _. (omega (arith, h .0), omega arith, omega (arith, h .1)))
 string-takes n broken h = tt
-
-begins-short : (xs l : List ℕ) → begins xs l ≡ true → length xs ≤ length l
-unfolding begins
-begins-short [] l h = omega arith
-begins-short (x ∷ xs) [] h = absurd (true≢false (sym h))
-begins-short (x ∷ xs) (b ∷ l) h = let z = begins-short xs l (both (eqb x b) (begins xs l) h .1) in omega arith
 
 symbol-takes : (ss : List Spelling) (l : List ℕ) → Spelled ss → Takes (length l) (symbolIn ss l)
 unfolding symbolIn Spelled

@@ -10,13 +10,14 @@ use lib.ListN.{length, getD, length-append}
 use lib.Seq.{drop-append-seam}
 use lib.Dec.{ltb, leb, eqb}
 use borrow.Author.Tests.{ltb-true, leb-true, eqb-true, le-ltb, le-leb, lt-leb, ne-eqb, not-true}
+use Rattle.syntax.specs.Laws.Marks.{value-append}
+use Rattle.text.specs.Laws.Booleans.{both, neither}
 use Rattle.text.specs.Bytes.{bytes, between, isBlank, isDigit, isLetter, startsName, continuesName}
 use Rattle.text.specs.Strings.{sameName}
 use Rattle.syntax.specs.Bounds.{nameBytes, stringBytes, maxInteger, realDigits}
 use Rattle.syntax.specs.Tree.{integer, real, string}
 use Rattle.syntax.specs.Token.{Token, word, constant, pick, good, frontOf, Spelling, reserved, wordIn, nameFront, valueFrom, valueOf, fractionOf, integerFront, realFront, numberFront, closed, escapeOf, bodyOf, frontToken}
 use Rattle.syntax.specs.Print.{digits, decimal, lastDigits, escaped, escapedAll}
-use Rattle.syntax.specs.Laws.Codes.{both, neither}
 use Rattle.lexemes.specs.Inner.Lexeme.{every, isOneOf, isName, inString, isString, isReal}
 use Rattle.lexemes.specs.Laws.Digits.{decimal-short, length-last}
 
@@ -129,11 +130,6 @@ last-digits : (p n : ℕ) → every isDigit (lastDigits p n) ≡ true
 unfolding lastDigits every
 last-digits zero n = refl
 last-digits (suc p) n = every-append isDigit (lastDigits p (n / 10)) ((48 + n % 10) ∷ []) (last-digits p (n / 10)) (one-digit (n % 10) (omega arith))
-
-value-append : (v : ℕ) (xs ys : List ℕ) → valueFrom v (xs ++ ys) ≡ valueFrom (valueFrom v xs) ys
-unfolding valueFrom
-value-append v [] ys = refl
-value-append v (x ∷ xs) ys = value-append (v * 10 + (x - code "0")) xs ys
 
 value-one : (v d : ℕ) → valueFrom v ((48 + d) ∷ []) ≡ v * 10 + d
 unfolding valueFrom

@@ -8,6 +8,7 @@ use mathlib.Core.List.{List, [], _∷_, _++_, append-assoc}
 use lib.ListN.{length, length-append}
 use lib.Dec.{ltb, leb, eqb}
 use borrow.Author.Tests.{leb-true, ne-eqb, le-ltb}
+use Rattle.text.specs.Laws.Booleans.{both}
 use Rattle.text.specs.Bytes.{bytes, isBlank, isDigit, isLetter, startsName, continuesName, lowerCase}
 use Rattle.text.specs.Strings.{sameName, sameBytes}
 use Rattle.syntax.specs.Bounds.{nameBytes, maxInteger}
@@ -15,7 +16,6 @@ use Rattle.syntax.specs.Tree.{Literal, undefined, error, boolean, integer, real
 use Rattle.syntax.specs.Token.{Token, word, constant, operator, symbol, Tokens, next, end, pick, good, frontOf, reserved, wordIn, nameFront, numberFront, symbolIn, begins, spellings, frontToken, tokensFrom, tokens}
 use Rattle.syntax.specs.Grammar.{bindsOf, unaryToken, Follows, none, some, Whole}
 use Rattle.syntax.specs.Print.{decimal, lastDigits, escapedAll, literalText, binaryText, unaryText, binds, wrap, referenceText, printed, definitionText, definitionsText, printedAd}
-use Rattle.syntax.specs.Laws.Codes.{both}
 use Rattle.syntax.specs.Laws.Sound.{follows-append}
 use Rattle.syntax.specs.declared.Binary.{Binary}
 use Rattle.syntax.specs.declared.Binary.the-variants.{Or, And, Equal, NotEqual, Is, Isnt, Less, LessOrEqual, Greater, GreaterOrEqual, Add, Subtract, Multiply, Divide, Remainder}

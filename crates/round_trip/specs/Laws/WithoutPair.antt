@@ -7,13 +7,13 @@ use mathlib.Core.Bool.{Bool, true, false, cond, _&&_}
 use mathlib.Core.List.{List, [], _∷_, _++_, append-assoc}
 use lib.Dec.{ltb}
 use borrow.Author.Tests.{lt-ltb, le-ltb}
+use Rattle.text.specs.Laws.Booleans.{both}
 use Rattle.text.specs.Bytes.{bytes}
 use Rattle.syntax.specs.Tree.{Expr, Ad}
 use Rattle.syntax.specs.Token.{Token, word, operator, symbol}
 use Rattle.syntax.specs.Grammar.{bindsOf, unaryToken}
 use Rattle.syntax.specs.Reader.{accepted, parse}
 use Rattle.syntax.specs.Print.{binaryText, unaryText, binds, wrap, printed, definitionText, definitionsText}
-use Rattle.syntax.specs.Laws.Codes.{both}
 use Rattle.syntax.specs.Laws.Accepts.{accepts}
 use Rattle.syntax.specs.declared.Binary.{Binary}
 use Rattle.syntax.specs.declared.Unary.{Unary}

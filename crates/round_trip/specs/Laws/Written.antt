@@ -10,13 +10,14 @@ use mathlib.Core.List.{List, [], _∷_, _++_}
 use lib.ListN.{length, getD, drop, length-append}
 use lib.Dec.{ltb, leb, eqb}
 use borrow.Author.Tests.{ltb-false, leb-true, eqb-false, le-leb, lt-ltb}
+use Rattle.text.specs.Laws.Booleans.{both}
 use Rattle.text.specs.Bytes.{between, isBlank, isDigit, startsName, continuesName}
 use Rattle.text.specs.Strings.{sameName}
 use Rattle.syntax.specs.Bounds.{nameBytes, stringBytes, maxInteger, realDigits}
 use Rattle.syntax.specs.Tree.{Expr, Ad}
 use Rattle.syntax.specs.Token.{Token, word, constant, operator, symbol, Tokens, next, end, bad, Front, good, wrong, Spelling, reserved, wordIn, frontOf, nameFront, integerFront, realFront, numberFront, fractionOf, valueFrom, valueOf, Body, closed, broken, grown, escapeOf, escapedOf, stringOf, bodyOf, begins, symbolIn, spellings, frontToken, onFront, tokensFrom, tokens}
 use Rattle.syntax.specs.Grammar.{Reads, reads-literal, reads-own, reads-other, reads-parentheses, reads-unary, reads-binary, reads-conditional, reads-tighter, Defines, defines-one, defines-more, IsAd, ad-empty, ad-plain, ad-trailing, Follows, none, some}
-use Rattle.syntax.specs.Laws.Codes.{on-pick, on-cond, both}
+use Rattle.syntax.specs.Laws.Codes.{on-pick, on-cond}
 use Rattle.syntax.specs.declared.Symbol.the-variants.{Question, Colon, CloseParenthesis, CloseBracket, Semicolon}
 use Rattle.lexemes.specs.Inner.Lexeme.{every, isOneOf, isName, inString, isString, isReal, isLiteral}
 use Rattle.round_trip.specs.Bounded.{isWritable, areWritable}

@@ -1,24 +1,22 @@
 -- The reader is the grammar: it accepts exactly the ads of the grammar within the bounds, each with its tree; every refusal has
 -- a number and a place. Assumes nothing.
-use Prim.Native.Nat.{ℕ, zero, suc, _+_, _*_, _≤_, _<_}
+use Prim.Native.Nat.{ℕ, zero, suc, _+_, _≤_, _<_}
 use native.Mathlib.Omega.{arith}
-use mathlib.Core.Path.{_≡_, refl, sym, _∙_, ap, subst}
+use mathlib.Core.Path.{_≡_, refl, sym, _∙_, ap}
 use mathlib.Core.Logic.{_↔_}
-use mathlib.Core.Bool.{true, false, true≢false}
-use mathlib.Core.List.{List, [], _∷_, _++_, append-assoc, append-nil}
+use mathlib.Core.Bool.{false, true≢false}
+use mathlib.Core.List.{List, [], _∷_, _++_, append-assoc}
 use lib.ListN.{length, length-append}
-use lib.Dec.{leb}
 use borrow.Author.Tests.{lt-leb}
-use Rattle.syntax.specs.Bounds.{maxNodes, maxDefinitions}
 use Rattle.syntax.specs.Tree.{Expr, Definition, Ad, size, nodes}
-use Rattle.syntax.specs.Token.{Token, word, symbol, Tokens, next, end, tokens}
-use Rattle.syntax.specs.Grammar.{ReadsTo, DefinesTo, defines-one, defines-more, AdTo, IsAd, ad-empty, ad-plain, ad-trailing, defined, NewAfter, Within, Follows, none, some, Whole}
-use Rattle.syntax.specs.Reader.{ok, accepted, denied, codeOf, Limits, limits, conditionalAt, count, enough, definitionsAt, behindAt, adAt, parse}
-use Rattle.syntax.specs.Laws.Sound.{Number, Marked}
+use Rattle.syntax.specs.Token.{Token, word, symbol, Tokens, end, tokens}
+use Rattle.syntax.specs.Grammar.{ReadsTo, DefinesTo, defines-one, defines-more, AdTo, IsAd, ad-empty, ad-plain, ad-trailing, NewAfter, Within, Follows, none, some, Whole}
+use Rattle.syntax.specs.Reader.{accepted, denied, Limits, limits, count, enough, definitionsAt, behindAt, adAt, parse}
+use Rattle.syntax.specs.Laws.Sound.{Number}
 use Rattle.syntax.specs.Laws.SoundAd.{AllA, Accepted, ad-sound}
 use Rattle.syntax.specs.Laws.Marks.{from-marked}
-use Rattle.syntax.specs.Laws.Complete.{Stops, never, follows-split, follows-token, conditional-complete}
-use Rattle.syntax.specs.declared.Symbol.the-variants.{OpenBracket, CloseBracket, Semicolon, Assign}
+use Rattle.syntax.specs.Laws.Complete.{Stops, never, follows-split, conditional-complete}
+use Rattle.syntax.specs.declared.Symbol.the-variants.{CloseBracket, Semicolon, Assign}
 
 pub follows-count : {u v : Tokens} {ts : List Token} → Follows u ts v → count u ≡ count v + length ts
 unfolding count

@@ -1,15 +1,13 @@
 -- What a test says, and that a symbol or operator is known by its number. Assumes nothing.
-use Prim.Native.Nat.{ℕ, zero, suc, _+_, _≤_, _<_}
+use Prim.Native.Nat.{ℕ, _≤_}
 use native.Mathlib.Omega.{arith}
-use mathlib.Core.Path.{_≡_, refl, sym, _∙_, ap, subst}
-use mathlib.Core.Bool.{Bool, true, false, true≢false, cond, _&&_, _||_}
-use mathlib.Core.List.{List, [], _∷_}
-use lib.Dec.{ltb, leb, eqb}
-use borrow.Author.Tests.{eqb-true, eq-eqb, ne-eqb}
-use Rattle.syntax.specs.Tree.{Literal, Expr}
-use Rattle.syntax.specs.Token.{Token, word, constant, operator, symbol, Tokens, next, end, bad, pick}
+use mathlib.Core.Path.{_≡_, refl, sym, _∙_, ap}
+use mathlib.Core.Bool.{Bool, true, false, cond}
+use lib.Dec.{eqb}
+use borrow.Author.Tests.{eqb-true}
+use Rattle.syntax.specs.Token.{Token, word, constant, operator, symbol, pick}
 use Rattle.syntax.specs.Grammar.{bindsOf}
-use Rattle.syntax.specs.Reader.{codeOf, isToken, onToken}
+use Rattle.syntax.specs.Reader.{codeOf, isToken}
 use Rattle.syntax.specs.declared.Binary.{Binary}
 use Rattle.syntax.specs.declared.Binary.the-variants.{Or, And, Equal, NotEqual, Is, Isnt, Less, LessOrEqual, Greater, GreaterOrEqual, Add, Subtract, Multiply, Divide, Remainder}
 use Rattle.syntax.specs.declared.Symbol.{Symbol}
@@ -23,14 +21,6 @@ module _ {A : Type 0} (P : A → Type 0) where
   pub on-pick : (b : Bool) (x y : Unit {0} → A) → (b ≡ true → P (x tt)) → (b ≡ false → P (y tt)) → P (pick b x y)
   on-pick true x y f g = f refl
   on-pick false x y f g = g refl
-
-pub both : (a b : Bool) → (a && b) ≡ true → (a ≡ true) × (b ≡ true)
-both true b h = (refl, h)
-both false b h = absurd (true≢false (sym h))
-
-pub neither : (a b : Bool) → (a || b) ≡ false → (a ≡ false) × (b ≡ false)
-neither true b h = absurd (true≢false h)
-neither false b h = (refl, h)
 
 -- the token of a number
 tokenOf : ℕ → Token
@@ -113,9 +103,6 @@ code-same t x h e = sym (found t (rw e h)) ∙ ap tokenOf e ∙ found x h
 
 pub is-token : (x t : Token) → 1 ≤ codeOf x → isToken x t ≡ true → t ≡ x
 is-token x t h e = code-same t x h (eqb-true _ _ e)
-
-pub is-itself : (x : Token) → isToken x x ≡ true
-is-itself x = eq-eqb (codeOf x) (codeOf x) refl
 
 -- every operator binds somewhere from 1 to 6
 pub binds-low : (j : Binary) → (1 ≤ bindsOf j) × (bindsOf j ≤ 6)

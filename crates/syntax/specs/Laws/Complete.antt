@@ -5,13 +5,13 @@ use mathlib.Core.Path.{_≡_, refl, sym, _∙_, ap, subst}
 use mathlib.Core.Bool.{Bool, true, false, true≢false}
 use mathlib.Core.List.{List, [], _∷_, _++_}
 use lib.ListN.{length, length-append}
-use lib.Dec.{ltb, leb, eqb}
+use lib.Dec.{ltb}
 use borrow.Author.Tests.{ltb-true, ltb-false, eq-eqb, ne-eqb, lt-ltb, lt-leb}
 use Rattle.syntax.specs.Tree.{Literal, own, other, Expr, literal, reference, unary, binary, conditional, size}
 use Rattle.syntax.specs.Token.{Token, word, constant, operator, symbol, Tokens, next, end, bad, pick}
 use Rattle.syntax.specs.Grammar.{bindsOf, unaryToken, ReadsTo, reads-literal, reads-own, reads-other, reads-parentheses, reads-unary, reads-binary, reads-conditional, reads-tighter, Follows, none, some}
-use Rattle.syntax.specs.Reader.{Parsed, ok, refused, codeOf, isToken, onToken, onBinary, onUnary, after, level, Limits, room, conditionalAt, binaryAt, restAt, unaryAt, primaryAt}
-use Rattle.syntax.specs.Laws.Codes.{binds-low, operator-coded, is-token}
+use Rattle.syntax.specs.Reader.{Parsed, ok, codeOf, isToken, onToken, onBinary, onUnary, after, level, Limits, room, conditionalAt, binaryAt, restAt, unaryAt, primaryAt}
+use Rattle.syntax.specs.Laws.Codes.{binds-low}
 use Rattle.syntax.specs.declared.Binary.{Binary}
 use Rattle.syntax.specs.declared.Unary.{Unary}
 use Rattle.syntax.specs.declared.Unary.the-variants.{Not, Plus, Minus}
@@ -35,11 +35,6 @@ stops-more (end n) b b′ h x = tt
 stops-more (bad k p) b b′ h x = tt
 
 module _ {A : Type 0} where
-  pub stop-token : (x : Token) (u : Tokens) (then : ℕ → Tokens → A) (otherwise : Unit {0} → A) → ((p : ℕ) (t : Token) (v : Tokens) → u ≡ next p t v → isToken x t ≡ false) → onToken x u then otherwise ≡ otherwise tt
-  stop-token x (next p t u) then otherwise h = rw (h p t u refl) refl
-  stop-token x (end n) then otherwise h = refl
-  stop-token x (bad k p) then otherwise h = refl
-
   pub at-token : (x : Token) (p : ℕ) (v : Tokens) (then : ℕ → Tokens → A) (otherwise : Unit {0} → A) → onToken x (next p x v) then otherwise ≡ then p v
   at-token x p v then otherwise = rw (eq-eqb (codeOf x) (codeOf x) refl) refl
 

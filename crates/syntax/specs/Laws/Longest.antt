@@ -8,9 +8,10 @@ use mathlib.Core.List.{List, [], _∷_, List·Memᴰ, List·Memᴰ·head, List·
 use lib.ListN.{length}
 use lib.Dec.{leb, eqb}
 use borrow.Author.Tests.{leb-true, eqb-true, not-true}
+use Rattle.text.specs.Laws.Booleans.{both, neither}
 use Rattle.text.specs.Bytes.{bytes, isDigit, isLetter, startsName}
 use Rattle.syntax.specs.Token.{Token, Front, good, wrong, Spelling, spellings, begins, symbolIn, frontToken}
-use Rattle.syntax.specs.Laws.Codes.{on-pick, both, neither}
+use Rattle.syntax.specs.Laws.Codes.{on-pick}
 
 -- ---- symbols
 

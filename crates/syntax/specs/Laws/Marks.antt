@@ -1,17 +1,18 @@
 -- The tokens of a text: their places are in it, and a bad one has the number 3, 5 or 7. Assumes nothing.
-use Prim.Native.Nat.{ℕ, zero, suc, _+_, _-_, _≤_, _<_}
+use Prim.Native.Nat.{ℕ, zero, suc, _+_, _-_, _≤_, _*_}
 use Prim.Native.Char.{code}
 use native.Mathlib.Omega.{arith}
-use mathlib.Core.Path.{_≡_, refl}
-use mathlib.Core.Bool.{Bool, true, false}
 use mathlib.Core.List.{List, [], _∷_, _++_}
 use lib.ListN.{length, drop}
 use lib.Dec.{ltb, eqb}
-use Rattle.text.specs.Bytes.{isBlank, isDigit, startsName}
+use mathlib.Core.Bool.{true, false≢true}
+use mathlib.Core.Path.{_≡_, refl}
+use Rattle.text.specs.Laws.Booleans.{both}
+use Rattle.text.specs.Bytes.{isBlank, isDigit, startsName, continuesName}
 use Rattle.syntax.specs.Bounds.{nameBytes, stringBytes, maxInteger, realDigits}
-use Rattle.syntax.specs.Token.{Token, Tokens, next, end, bad, pick, Front, good, wrong, Spelling, frontOf, nameFront, integerFront, realFront, numberFront, fractionOf, valueOf, Body, closed, broken, stringOf, bodyOf, begins, symbolIn, spellings, frontToken, onFront, tokensFrom}
+use Rattle.syntax.specs.Token.{Token, Tokens, Front, good, wrong, Spelling, frontOf, nameFront, integerFront, realFront, numberFront, fractionOf, valueOf, Body, closed, broken, stringOf, bodyOf, begins, symbolIn, spellings, frontToken, onFront, tokensFrom, valueFrom}
 use Rattle.syntax.specs.Laws.Codes.{on-pick}
-use Rattle.syntax.specs.Laws.Sound.{Number, Marked}
+use Rattle.syntax.specs.Laws.Sound.{Marked}
 
 -- a refusal of a token
 abbrev Small : Front → Type 0
@@ -66,3 +67,21 @@ from-marked n zero p (b ∷ l) h =
     let below : (k : ℕ) → Marked n (tokensFrom k (p + 1) l) = λ k. from-marked n k (p + 1) l (omega arith) in
     on-pick (Marked n) (isBlank b) _ _ (λ _. below zero)
     (λ _. on-front n p (frontToken b l) _ (omega arith) (front-small b l) (λ t k. (omega arith, below (k - 1))))
+
+-- ---- the text in front
+
+pub begins-short : (xs l : List ℕ) → begins xs l ≡ true → length xs ≤ length l
+unfolding begins
+begins-short [] l h = omega arith
+begins-short (x ∷ xs) [] h = absurd (false≢true h)
+begins-short (x ∷ xs) (b ∷ l) h = let z = begins-short xs l (both (eqb x b) (begins xs l) h .1) in omega arith
+
+pub value-append : (v : ℕ) (xs ys : List ℕ) → valueFrom v (xs ++ ys) ≡ valueFrom (valueFrom v xs) ys
+unfolding valueFrom
+value-append v [] ys = refl
+value-append v (x ∷ xs) ys = value-append (v * 10 + (x - code "0")) xs ys
+
+-- what starts a name goes on with it
+pub starts-continues : (b : ℕ) → startsName b ≡ true → continuesName b ≡ true
+unfolding startsName continuesName
+starts-continues b h = rw h refl

@@ -2,17 +2,15 @@
 -- Assumes nothing.
 use Prim.Native.Nat.{ℕ, zero, suc, _+_, _-_, _*_, _≤_, _<_}
 use native.Mathlib.Omega.{arith}
-use mathlib.Core.Path.{_≡_, refl, sym, _∙_, ap, subst}
-use mathlib.Core.Bool.{Bool, true, false, cond}
-use mathlib.Core.List.{List, [], _∷_, _++_, append-assoc}
-use lib.ListN.{length, length-append}
+use mathlib.Core.Path.{_≡_, refl, subst}
+use mathlib.Core.List.{List, [], _∷_, _++_}
 use lib.Dec.{ltb, leb, eqb}
-use borrow.Author.Tests.{ltb-true, ltb-false, leb-true, leb-false, eqb-true}
-use Rattle.syntax.specs.Tree.{Literal, Scope, own, other, Expr, literal, reference, unary, binary, conditional, Definition, Ad, size, nodes}
-use Rattle.syntax.specs.Token.{Token, word, constant, operator, symbol, Tokens, next, end, bad, pick}
+use borrow.Author.Tests.{ltb-true, ltb-false, leb-false, eqb-true}
+use Rattle.syntax.specs.Tree.{Literal, Expr, unary, binary, conditional, size}
+use Rattle.syntax.specs.Token.{Token, word, constant, operator, symbol, Tokens, next, end, bad}
 use Rattle.syntax.specs.Grammar.{bindsOf, unaryToken, ReadsTo, reads-literal, reads-own, reads-other, reads-parentheses, reads-unary, reads-binary, reads-conditional, reads-tighter, Follows, none, some}
-use Rattle.syntax.specs.Reader.{Parsed, ok, refused, Answer, accepted, denied, codeOf, isToken, misfit, onToken, onWord, onLiteral, onBinary, onUnary, after, want, level, Limits, room, conditionalAt, armsAt, binaryAt, restAt, unaryAt, primaryAt, count}
-use Rattle.syntax.specs.Laws.Codes.{on-pick, is-token, symbol-coded, operator-coded, binds-low}
+use Rattle.syntax.specs.Reader.{Parsed, ok, refused, codeOf, isToken, misfit, onToken, onWord, onLiteral, onBinary, onUnary, after, want, level, Limits, room, conditionalAt, armsAt, binaryAt, restAt, unaryAt, primaryAt, count}
+use Rattle.syntax.specs.Laws.Codes.{on-pick, is-token, symbol-coded, operator-coded}
 use Rattle.syntax.specs.declared.Binary.{Binary}
 use Rattle.syntax.specs.declared.Binary.the-variants.{Add, Subtract}
 use Rattle.syntax.specs.declared.Unary.{Unary}

@@ -1,15 +1,15 @@
 -- What the reader of ads accepts is an ad of the grammar within the limits. Assumes nothing.
-use Prim.Native.Nat.{ℕ, zero, suc, _+_, _*_, _≤_, _<_}
+use Prim.Native.Nat.{ℕ, zero, suc, _+_, _≤_, _<_}
 use native.Mathlib.Omega.{arith}
-use mathlib.Core.Path.{_≡_, refl, sym, _∙_, ap, subst}
-use mathlib.Core.Bool.{Bool, true, false}
+use mathlib.Core.Path.{_≡_, refl, sym, _∙_, subst}
+use mathlib.Core.Bool.{false}
 use mathlib.Core.List.{List, [], _∷_, _++_, append-assoc, append-nil}
 use lib.ListN.{length, length-append}
 use lib.Dec.{leb}
 use borrow.Author.Tests.{leb-false}
 use Rattle.syntax.specs.Tree.{Expr, Definition, Ad, size, nodes}
-use Rattle.syntax.specs.Token.{Token, word, constant, operator, symbol, Tokens, next, end, bad, pick}
-use Rattle.syntax.specs.Grammar.{ReadsTo, DefinesTo, defines-one, defines-more, AdTo, ad-empty, ad-plain, ad-trailing, NewAfter, Follows, none, some}
+use Rattle.syntax.specs.Token.{Token, word, constant, operator, symbol, Tokens, next, end, bad}
+use Rattle.syntax.specs.Grammar.{ReadsTo, DefinesTo, defines-one, defines-more, AdTo, ad-empty, ad-plain, ad-trailing, NewAfter, Follows}
 use Rattle.syntax.specs.Reader.{Parsed, ok, refused, Answer, accepted, denied, codeOf, isToken, misfit, onToken, onWord, Limits, conditionalAt, afterA, wantA, endA, count, enough, admit, definitionsAt, behindAt, adAt}
 use Rattle.syntax.specs.Laws.Codes.{on-pick, is-token, symbol-coded}
 use Rattle.syntax.specs.Laws.Sound.{Number, Marked, Step, step-of, All, Got, conditional-sound, follows-append, follows-marked}

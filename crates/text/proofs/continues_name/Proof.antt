@@ -4,10 +4,6 @@ use mathlib.Core.Path.{sym, _∙_}
 use borrow.Author.Needs.{needs}
 use Rattle.text.proofs.continues_name.Statement.{statement}
 use Rattle.text.proofs.continues_name.Tie as tie
-use Rattle.text.proofs.continues_name.Reads as reads
-use Rattle.text.proofs.continues_name.Lts as lts
-use Rattle.text.proofs.is_digit.Reads as is-digit-reads
-use Rattle.text.proofs.starts_name.Reads as starts-name-reads
 
 -- src/lib.rt:62:8
 

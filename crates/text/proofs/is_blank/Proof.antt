@@ -3,8 +3,6 @@ use borrow.Author.Tests.{eq-eqb, ne-eqb}
 use Rattle.text.specs.Bytes.{isBlank}
 use Rattle.text.proofs.is_blank.Statement.{statement}
 use Rattle.text.proofs.is_blank.Tie as tie
-use Rattle.text.proofs.is_blank.Reads as reads
-use Rattle.text.proofs.is_blank.Lts as lts
 
 -- src/lib.rt:18:9
 returns : tie.Need-returns

@@ -1,10 +1,8 @@
-use borrow.Author.Tests.{le-leb, lt-leb}
+use borrow.Author.Tests.{lt-leb}
 use Rattle.text.specs.Bytes.{isLetter}
 use Rattle.text.proofs.Classes.{small-letter, capital-letter}
 use Rattle.text.proofs.is_letter.Statement.{statement}
 use Rattle.text.proofs.is_letter.Tie as tie
-use Rattle.text.proofs.is_letter.Reads as reads
-use Rattle.text.proofs.is_letter.Lts as lts
 
 -- src/lib.rt:42:9
 returns : tie.Need-returns

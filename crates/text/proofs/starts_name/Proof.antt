@@ -3,9 +3,6 @@ use mathlib.Core.Path.{sym, _∙_}
 use borrow.Author.Needs.{needs}
 use Rattle.text.proofs.starts_name.Statement.{statement}
 use Rattle.text.proofs.starts_name.Tie as tie
-use Rattle.text.proofs.starts_name.Reads as reads
-use Rattle.text.proofs.starts_name.Lts as lts
-use Rattle.text.proofs.is_letter.Reads as is-letter-reads
 
 -- src/lib.rt:52:8
 

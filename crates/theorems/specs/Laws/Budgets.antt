@@ -1,16 +1,15 @@
 -- A budget that covers the list makes no difference, and moves are counted exactly. Assumes nothing.
-use Prim.Native.Nat.{ℕ, _≤_, _<_}
-use native.Mathlib.Decide.{decLt}
+use Prim.Native.Nat.{ℕ, _≤_}
 use native.Mathlib.Omega.{arith}
 use mathlib.Core.Path.{_≡_, sym, ap, _∙_, subst}
 use mathlib.Core.List.{List}
 use lib.ListN.{length, take, replicate}
 use lib.Seq.{take-all}
 use Rattle.graph.specs.Members.{_∈_}
-use Rattle.graph.specs.Graph.{Graph, needs}
+use Rattle.graph.specs.Graph.{needs}
 use Rattle.links.specs.Pair.{pairGraph}
 use Rattle.evaluation.specs.Evaluation.{ruleAt, stepsWords}
-use Rattle.matching.specs.Matching.{Counted, Match}
+use Rattle.matching.specs.Matching.{Match}
 use Rattle.matching.specs.declared.Outcome.{Outcome}
 
 pub match-budget : {v b w c : List ℕ} {i : ℕ} {table list : List ℕ} {r : Outcome} (j : ℕ) (m : Match v b w c i table list r) → length (m .order) ≤ i → length (m .order) ≤ j → Match v b w c j table list r
@@ -33,12 +32,3 @@ match-budget {v} {b} {w} {c} {i} j m h k = record {
   where
     same : take i (m .order) ≡ take j (m .order)
     same = take-all i (m .order) h ∙ sym (take-all j (m .order) k)
-
--- 'exactly as many as it counts'
-pub count-one : (G : Graph) (i j : ℕ) → Counted G i → Counted G j → i ≡ j
-count-one G i j p q = go (decLt i j) (decLt j i)
-  where
-    go : Dec (i < j) → Dec (j < i) → i ≡ j
-    go (yes l) e = absurd (q .exact i l (p .ends))
-    go (no k) (yes l) = absurd (p .exact j l (q .ends))
-    go (no k) (no l) = let k′ : ¬ (i < j) = k in let l′ : ¬ (j < i) = l in omega arith

@@ -38,7 +38,8 @@ use Rattle.slots.specs.Packed.{slotAt}
 use Rattle.valuation.specs.Run.{stepTable}
 use Rattle.evaluation.specs.Evaluation.{seen, Stepped}
 use Rattle.matching.specs.Matching as M
-use Rattle.matching.specs.Matching.{isTrue, rankOf, Counted, Match, Well, Matched, no-room, first-malformed, second-malformed, matches, tableWords, listWords}
+use Rattle.matching.specs.Matching.{isTrue, rankOf, Counted, Match, Matched, no-room, first-malformed, second-malformed, matches, tableWords}
+use Rattle.admission.specs.Admission.{Well, listWords}
 use Rattle.matching.specs.declared.Outcome.{Outcome}
 use Rattle.matching.specs.declared.Outcome.the-variants as outcome
 use Rattle.ordering.specs.Ordering as O

@@ -8,16 +8,17 @@ use mathlib.Core.List.{List, [], _∷_, _++_, map}
 use lib.ListN.{length, take, replicate, length-replicate}
 use lib.Seq.{take-all}
 use lib.Dec.{ltb}
+use borrow.Author.Tests.{le-ltb, lt-ltb}
+use Rattle.matching.proofs.Assembling.{blank-zeros}
 use Rattle.syntax.specs.Bounds.{maxNodes}
 use Rattle.graph.specs.Members.{_∈_, here, there, Each}
-use Rattle.graph.specs.Laws.Members.{mem-nil, mem-cons, ltb-yes, ltb-no}
+use Rattle.graph.specs.Laws.Members.{mem-nil, mem-cons}
 use Rattle.graph.specs.Graph.{Sound, Node, Flags, needs, Entered}
 use Rattle.graph.specs.Transition.{transitions, first}
 use Rattle.graph.specs.Laws.Traversal.{needs-links, needs-acyclic, within-square}
 use Rattle.graph.specs.Laws.Progress.{Exactly, traverse-exactly}
 use Rattle.links.specs.Pair.{rootsOf, requirements, rank, pairGraph, Formed}
 use Rattle.links.specs.Laws.Soundness.{pair-sound}
-use Rattle.dependency.specs.Laws.Use.{clear-zeros}
 use Rattle.values.specs.declared.Value.{Value}
 use Rattle.slots.specs.declared.Slot.{Slot}
 use Rattle.slots.specs.declared.Slot.the-variants.{Blank, Held}
@@ -35,9 +36,6 @@ use Rattle.matching.specs.declared.Outcome.the-variants.{Finished, Unfinished}
 use Rattle.theorems.specs.Laws.Slots.{steps-slots}
 
 -- ---- a match, from the circular references, the list and the count of moves
-
-blank-zeros : (n x : ℕ) → slotAt (replicate n 0) x ≡ Blank
-blank-zeros n x = rw (clear-zeros n (x * 2)) refl
 
 take-in : {x : ℕ} (n : ℕ) (l : List ℕ) → x ∈ take n l → x ∈ l
 take-in zero l m = absurd (mem-nil m)
@@ -101,9 +99,9 @@ module _ (v b w c : List ℕ) (f : Formed v) (g : Formed w) (circular : ℕ → 
       second-required = worked h (rootsOf true w c requirements) (roots-second v b w c);
       first-ranked = worked h (rootsOf false v b rank) (ranks-first v b w c);
       second-ranked = worked h (rootsOf true w c rank) (ranks-second v b w c);
-      answers = ap (λ (t : Bool). cond t (Unfinished budget count) (Finished (isTrue (held false v b requirements) && isTrue (held true w c requirements)) (rankOf (held false v b rank)) (rankOf (held true w c rank)) (length order) count)) (ltb-no h);
+      answers = ap (λ (t : Bool). cond t (Unfinished budget count) (Finished (isTrue (held false v b requirements) && isTrue (held true w c requirements)) (rankOf (held false v b rank)) (rankOf (held true w c rank)) (length order) count)) (le-ltb _ _ h);
     };
-    unfinished = λ h. ap (λ (t : Bool). cond t (Unfinished budget count) (Finished (isTrue (held false v b requirements) && isTrue (held true w c requirements)) (rankOf (held false v b rank)) (rankOf (held true w c rank)) (length order) count)) (ltb-yes h);
+    unfinished = λ h. ap (λ (t : Bool). cond t (Unfinished budget count) (Finished (isTrue (held false v b requirements) && isTrue (held true w c requirements)) (rankOf (held false v b rank)) (rankOf (held true w c rank)) (length order) count)) (lt-ltb _ _ h);
   }
 
 -- ---- the traversal has them

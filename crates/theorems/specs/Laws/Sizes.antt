@@ -11,7 +11,7 @@ use Rattle.reals.proofs.Literals.{stored-fits}
 use Rattle.values.specs.declared.Value.{Value}
 use Rattle.values.specs.declared.Value.the-variants.{Undefined, Error, Boolean, Integer, Real, String}
 use Rattle.values.specs.Values.{Sized}
-use Rattle.operators.proofs.Sizes.{binary-sized, unary-sized, conditional-sized}
+use Rattle.operators.proofs.Sizes.{binary-sized, unary-sized, conditional-sized, choose}
 use Rattle.slots.specs.declared.Slot.{Slot}
 use Rattle.slots.specs.declared.Slot.the-variants.{Blank, Held}
 use Rattle.slots.specs.Packed.{slotAt, SizedSlot}
@@ -30,10 +30,6 @@ SizedNode Reference = Unit {0}
 SizedNode (OfOne op) = Unit {0}
 SizedNode (OfTwo op) = Unit {0}
 SizedNode Conditional = Unit {0}
-
-choose : (b : Bool) (u v : Value) → Sized u → Sized v → Sized (cond b u v)
-choose true u v p q = p
-choose false u v p q = q
 
 pick : (b : Bool) (m n : Node) → SizedNode m → SizedNode n → SizedNode (cond b m n)
 pick true m n p q = p

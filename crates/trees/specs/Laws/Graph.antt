@@ -8,6 +8,7 @@ use mathlib.Core.Bool.{Bool, true, false, cond, _&&_, _||_}
 use mathlib.Core.List.{List, [], _∷_, _++_, map}
 use lib.ListN.{length, getD, length-map, List·getD-eq-default}
 use lib.Dec.{ltb}
+use borrow.Author.Tests.{le-ltb, lt-ltb, ne-eqb}
 use Rattle.syntax.specs.Bounds.{maxNodes}
 use Rattle.syntax.specs.Tree.{Literal, undefined, error, boolean, integer, real, string, own, other, Ad, nodes}
 use Rattle.syntax.specs.declared.Binary.{Binary}
@@ -16,7 +17,6 @@ use Rattle.ad.specs.Layout.{unaryKind, binaryKind, scopeKind, literalNode}
 use Rattle.ad.specs.Laws.Content.{unary-range, binary-high}
 use Rattle.ad.specs.Stored.{kindAt, nodeCount, operands, nameAt, isOwn, isOther, find}
 use Rattle.ad.specs.Stored as stored
-use Rattle.graph.specs.Laws.Members.{ltb-yes, ltb-no, eqb-no}
 use Rattle.links.specs.Pair.{inside, across, linked, linksFrom, refersAt, numbered, both, requirements, rank, definitionAt, pairGraph, StoredAd}
 use Rattle.links.specs.Laws.Layout.{stored-nodes}
 use Rattle.links.specs.Laws.Finding.{find-tree}
@@ -51,7 +51,7 @@ abbrev choice : {A : Type 0} → ℕ → A → A → A → A
 choice k p q r = cond (isOwn k) p (cond (isOther k) q r)
 
 choice-none : {A : Type 0} (k : ℕ) (p q r : A) → k ≢ 7 → k ≢ 8 → choice k p q r ≡ r
-choice-none k p q r f g = rw (eqb-no f, eqb-no g) refl
+choice-none k p q r f g = rw (ne-eqb _ _ f, ne-eqb _ _ g) refl
 
 module _ {w b : List ℕ} {i : ℕ} {A : Type 0} (p q r : A) where
   kind-is : {t : Node} (s : Says w b i t) → kindAt w i ≡ getD (wordsOf (s .place) t) 0 0
@@ -118,12 +118,12 @@ module _ {w b w′ b′ : List ℕ} {a a′ : Ad} (s : StoredAd w b a) (s′ : S
           cond (ltb i (nodeCount w)) (choice (kindAt w i) (map inside (find w b (nameAt w b i))) (map across (find w′ b′ (nameAt w b i))) (map inside (operands w i))) [] ≡
           getD (map (leads a a′) (nodesIn 0 a)) i []
       go (yes h) =
-          rw (counted, ltb-yes h) (links-said i (nthNode a i) (stored-node s i h))
+          rw (counted, lt-ltb _ _ h) (links-said i (nthNode a i) (stored-node s i h))
           ∙ sym (map-at (leads a a′) (nodesIn 0 a) i (leaf undefined) [] (let e = length-in 0 a in omega arith))
       go (no n) =
           let k : ¬ (i < nodes a) = n in
           let h : nodes a ≤ i = omega arith in
-          rw (counted, ltb-no h) (sym (map-out (leads a a′) (nodesIn 0 a) i [] (let e = length-in 0 a in omega arith)))
+          rw (counted, le-ltb _ _ h) (sym (map-out (leads a a′) (nodesIn 0 a) i [] (let e = length-in 0 a in omega arith)))
 
 module _ {w b : List ℕ} {a : Ad} (s : StoredAd w b a) where
   refers-choice : (k : ℕ) → stored.isReference k ≡ choice k true true false
@@ -149,12 +149,12 @@ module _ {w b : List ℕ} {a : Ad} (s : StoredAd w b a) where
     where
       go : Dec (i < nodes a) → (ltb i (nodeCount w) && stored.isReference (kindAt w i)) ≡ getD (map isReference (nodesIn 0 a)) i false
       go (yes h) =
-          rw (counted s s, ltb-yes h) (refers-choice (kindAt w i) ∙ ref-said i (nthNode a i) (stored-node s i h))
+          rw (counted s s, lt-ltb _ _ h) (refers-choice (kindAt w i) ∙ ref-said i (nthNode a i) (stored-node s i h))
           ∙ sym (map-at isReference (nodesIn 0 a) i (leaf undefined) false (let e = length-in 0 a in omega arith))
       go (no n) =
           let k : ¬ (i < nodes a) = n in
           let h : nodes a ≤ i = omega arith in
-          rw (counted s s, ltb-no h) (sym (map-out isReference (nodesIn 0 a) i false (let e = length-in 0 a in omega arith)))
+          rw (counted s s, le-ltb _ _ h) (sym (map-out isReference (nodesIn 0 a) i false (let e = length-in 0 a in omega arith)))
 
 -- ---- THE THEOREM
 

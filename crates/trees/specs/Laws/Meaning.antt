@@ -2,11 +2,12 @@
 use Prim.Native.Nat.{ℕ, _+_, _^_, _≤_, _<_}
 use native.Mathlib.Omega.{arith}
 use mathlib.Core.Path.{_≡_, refl, sym, ap, _∙_, subst}
-use mathlib.Core.Bool.{Bool, true, false, cond, not, _&&_}
+use mathlib.Core.Bool.{Bool, true, false, cond, not, _&&_, false≢true}
 use mathlib.Core.List.{List, [], _∷_, map}
 use lib.ListN.{length, getD}
 use lib.Dec.{ltb, leb}
 use borrow.Author.Tests.{leb-true, ltb-true}
+use Rattle.text.specs.Laws.Booleans.{and-left, and-right}
 use Rattle.syntax.specs.Bounds.{maxInteger, stringBytes, realDigits}
 use Rattle.syntax.specs.Tree.{Literal, undefined, error, boolean, integer, real, string, Scope, Expr, literal, reference, unary, binary, conditional, Ad, size}
 use Rattle.syntax.specs.declared.Binary.{Binary}
@@ -19,7 +20,6 @@ use Rattle.links.specs.Pair.{linked, numbered, definitionAt}
 use Rattle.round_trip.specs.Bounded.{isWritable}
 use Rattle.well_formed.specs.WellFormed.{Holds}
 use Rattle.well_formed.specs.Laws.Bounds.{bounded}
-use Rattle.well_formed.specs.Laws.Shapes.{and-left, and-right}
 use Rattle.values.specs.declared.Value.{Value}
 use Rattle.values.specs.declared.Value.the-variants.{Undefined}
 use Rattle.nodes.specs.declared.Node.the-variants.{Constant, Reference, OfOne, OfTwo, Conditional}
@@ -33,7 +33,7 @@ use Rattle.trees.specs.Nodes.{Node, leaf, refers, ofOne, ofTwo, ofThree,
 use Rattle.trees.specs.Links.{leads, isReference, treeGraph}
 use Rattle.trees.specs.Values.{Denotes, adOf, sideOf, Means, is-literal, is-circular, is-absent, is-found, is-unary, is-binary, is-conditional, Part, whole, under, left, right, test, taken, otherwise}
 use Rattle.trees.specs.Laws.Parts.{topOf, part-writable}
-use Rattle.trees.specs.Laws.Own.{never, Looked, nowhere, somewhere, look, finds-defines, own-leaf, stored-long, holds, links-own, ref-own, rule-own, said, ruleIn, leads-name}
+use Rattle.trees.specs.Laws.Own.{Looked, nowhere, somewhere, look, finds-defines, own-leaf, stored-long, holds, links-own, ref-own, rule-own, said, ruleIn, leads-name}
 use Rattle.trees.specs.Laws.Returning.{returns-circular, circular-returns}
 
 -- ---- literals
@@ -106,7 +106,7 @@ module _ {a a′ : Ad} (h : Holds (storedWords a) (storedBytes a) a) (h′ : Hol
     needs-own second {n} {e} p k = ap (λ (t : Bool). cond t [] (treeGraph a a′ .links (numbered second (lastOf n e)))) (straight (c (numbered second (lastOf n e))) refl) ∙ links-own h h′ second p
       where
         straight : (t : Bool) → c (numbered second (lastOf n e)) ≡ t → t ≡ false
-        straight true q = absurd (never (sym k ∙ sym (ref-own h h′ second p) ∙ fl (numbered second (lastOf n e)) .0 q .0))
+        straight true q = absurd (false≢true (sym k ∙ sym (ref-own h h′ second p) ∙ fl (numbered second (lastOf n e)) .0 q .0))
         straight false q = refl
 
     -- u is the value of every expression whose own node is x
@@ -143,7 +143,7 @@ module _ {a a′ : Ad} (h : Holds (storedWords a) (storedBytes a) a) (h′ : Hol
             Looked name 0 (adOf a a′ (sideOf second s)) → Means a a′ second n (reference s name) (valueIn us 0)
         looked q d (nowhere x y) = undefined-as (none-meant (subst (λ (r : List ℕ). Alike Meant (map (numbered (sideOf second s)) r) us) x d)) (is-absent y)
         looked q d (somewhere m e x f) =
-            is-found (λ z. never (sym q ∙ fl (numbered second n) .1 (returns-circular h h′ second p z))) f
+            is-found (λ z. false≢true (sym q ∙ fl (numbered second n) .1 (returns-circular h h′ second p z))) f
             (meant-0 (subst (λ (r : List ℕ). Alike Meant (map (numbered (sideOf second s)) r) us) x d) (sideOf second s) m e (whole (finds-defines f)) refl)
 
         by-flag : (t : Bool) → c (numbered second n) ≡ t → Alike Meant (cond t [] (treeGraph a a′ .links (numbered second n))) us → Means a a′ second n (reference s name) (valueIn us 0)

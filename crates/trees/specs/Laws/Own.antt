@@ -6,14 +6,15 @@ use mathlib.Core.Bool.{Bool, true, false, cond, not}
 use mathlib.Core.List.{List, [], _∷_, map}
 use lib.ListN.{length, length-append, length-replicate}
 use lib.Dec.{ltb}
+use borrow.Author.Tests.{lt-ltb}
+use Rattle.links.specs.Laws.Numbering.{inside-numbers, across-numbers}
 use Rattle.text.specs.Strings.{sameName}
 use Rattle.syntax.specs.Bounds.{maxNodes}
 use Rattle.syntax.specs.Tree as tree
 use Rattle.syntax.specs.Tree.{undefined, Scope, other, Expr, reference, Ad, size, nodes}
 use Rattle.syntax.specs.Grammar.{defined}
 use Rattle.ad.specs.Layout.{adBytes, adBytesRoom, storedWords, storedBytes}
-use Rattle.links.specs.Pair.{inside, across, linked, numbered, both, definitionAt, StoredAd}
-use Rattle.graph.specs.Laws.Members.{ltb-yes}
+use Rattle.links.specs.Pair.{linked, numbered, both, definitionAt, StoredAd}
 use Rattle.links.specs.Laws.Soundness.{both-low, both-high}
 use Rattle.well_formed.specs.WellFormed.{Holds}
 use Rattle.well_formed.specs.Laws.Bounds.{bounded}
@@ -28,9 +29,6 @@ use Rattle.trees.specs.Values.{adOf, sideOf, Finds, found-first, found-l
 use Rattle.trees.specs.Laws.Stored.{length-in, stored-node}
 use Rattle.trees.specs.Laws.Graph.{map-at}
 use Rattle.trees.specs.Laws.Parts.{topOf, top}
-
-pub never : false ≡ true → ⊥
-never e = let z : _≡_ {A = ℕ} 0 1 = cc in omega arith
 
 -- ---- names
 
@@ -65,14 +63,6 @@ own-leaf n s name = let q : n + 1 - 1 ≡ n = omega arith in q
 both-side : {A : Type 0} (p q : ℕ → A) (second : Bool) (i : ℕ) → i < maxNodes → both p q (numbered second i) ≡ cond second (q i) (p i)
 both-side p q true i h = both-high p q (maxNodes + i) (omega arith) ∙ ap q (let e : (maxNodes + i) - maxNodes ≡ i = omega arith in e)
 both-side p q false i h = both-low p q i h
-
-inside-numbers : (s : Bool) (l : List ℕ) → map (linked s) (map inside l) ≡ map (numbered s) l
-inside-numbers s [] = refl
-inside-numbers s (y ∷ l) = ap (λ (u : List ℕ). numbered s y ∷ u) (inside-numbers s l)
-
-across-numbers : (s : Bool) (l : List ℕ) → map (linked s) (map across l) ≡ map (numbered (not s)) l
-across-numbers s [] = refl
-across-numbers s (y ∷ l) = ap (λ (u : List ℕ). numbered (not s) y ∷ u) (across-numbers s l)
 
 -- an ad in its memory
 pub stored-of : {w b : List ℕ} {a : Ad} → Holds w b a → StoredAd w b a
@@ -135,8 +125,8 @@ module _ {a a′ : Ad} (h : Holds (storedWords a) (storedBytes a) a) (h′ : Hol
     node-own = both-side (λ i. ltb i (nodes a)) (λ i. ltb i (nodes a′)) second (lastOf n e) low ∙ go second (top p .stands)
       where
         go : (s : Bool) → lastOf n e < nodes (adOf a a′ s) → cond s (ltb (lastOf n e) (nodes a′)) (ltb (lastOf n e) (nodes a)) ≡ true
-        go true k = ltb-yes k
-        go false k = ltb-yes k
+        go true k = lt-ltb _ _ k
+        go false k = lt-ltb _ _ k
 
     pub rule-own : {k : kind.Node} (us : List Value) → nodeFrom second (storedWords (adOf a a′ second)) (lastOf n e) ≡ k → ruleIn a a′ (numbered second (lastOf n e)) us ≡ ruleOf (storedBytes a) (storedBytes a′) k us
     rule-own us q = rules-at second (lastOf n e) us low ∙ ap (λ (m : kind.Node). ruleOf (storedBytes a) (storedBytes a′) m us) q

@@ -1,8 +1,7 @@
 -- An expression has one value, wherever the bytes of a String stand. Assumes nothing.
 use Prim.Native.Nat.{ℕ}
-use native.Mathlib.Omega.{arith}
 use mathlib.Core.Path.{_≡_, refl, sym, ap, _∙_, subst}
-use mathlib.Core.Bool.{Bool, true, false, not}
+use mathlib.Core.Bool.{Bool, true, false, not, true≢false}
 use mathlib.Core.List.{List}
 use lib.ListN.{length}
 use Rattle.text.specs.Strings.{sameBytes, stringOrder}
@@ -26,9 +25,6 @@ use Rattle.comparison.specs.declared.Comparison.the-variants as comparison
 use Rattle.comparison.specs.Comparison.{orderHolds, comparisonValue}
 use Rattle.operators.specs.Operators.{binaryValue, unaryValue}
 use Rattle.trees.specs.Values.{Denotes, adOf, sideOf, Finds, found-first, found-later, Means, is-literal, is-circular, is-absent, is-found, is-unary, is-binary, is-conditional, Same, same-value, same-bytes, Worths, has-none, has-one}
-
-never : true ≡ false → ⊥
-never e = let z : _≡_ {A = ℕ} 0 1 = cc in omega arith
 
 -- ---- the rules make the same of the same values
 
@@ -136,8 +132,8 @@ finds-defined (found-later h f) = rw h (finds-defined f)
 module _ (P : ℕ → Expr → Type 0) where
   finds-one : {name : List ℕ} {k n m : ℕ} {a : Ad} {e f : Expr} → Finds name k a n e → Finds name k a m f → P m f → P n e
   finds-one (found-first h) (found-first g) x = x
-  finds-one (found-first h) (found-later g f) x = absurd (never (sym h ∙ g))
-  finds-one (found-later h f) (found-first g) x = absurd (never (sym g ∙ h))
+  finds-one (found-first h) (found-later g f) x = absurd (true≢false (sym h ∙ g))
+  finds-one (found-later h f) (found-first g) x = absurd (true≢false (sym g ∙ h))
   finds-one (found-later h f) (found-later g f′) x = finds-one f f′ x
 
 -- ---- one value
@@ -166,9 +162,9 @@ module _ (a a′ : Ad) where
   one-meaning (is-circular p) (is-found q f m) = absurd (q p)
   one-meaning (is-absent p) (is-circular q) = same-value
   one-meaning (is-absent p) (is-absent q) = same-value
-  one-meaning (is-absent p) (is-found q f m) = absurd (never (sym (finds-defined f) ∙ p))
+  one-meaning (is-absent p) (is-found q f m) = absurd (true≢false (sym (finds-defined f) ∙ p))
   one-meaning (is-found q f m) (is-circular p) = absurd (q p)
-  one-meaning (is-found q f m) (is-absent p) = absurd (never (sym (finds-defined f) ∙ p))
+  one-meaning (is-found q f m) (is-absent p) = absurd (true≢false (sym (finds-defined f) ∙ p))
   one-meaning (is-found {second = second} {s = s} {v = u} q f m) (is-found {v = v} q′ f′ m′) =
       one-meaning m (finds-one (λ k x. Means a a′ (sideOf second s) k x v) f f′ m′)
   one-meaning (is-unary {u = j} p) (is-unary q) = as-same (storedBytes a) (storedBytes a′) (unary-same (storedBytes a) (storedBytes a′) j (one-meaning p q))
@@ -180,6 +176,6 @@ module _ (a a′ : Ad) where
   -- A NAME'S DEFINITION HAS ONE VALUE
   pub one-worth : (second : Bool) (name : List ℕ) {u v : Value} → Worths a a′ second name u → Worths a a′ second name v → Same (storedBytes a) (storedBytes a′) u v
   one-worth second name (has-none p) (has-none q) = same-value
-  one-worth second name (has-none p) (has-one f m) = absurd (never (sym (finds-defined f) ∙ p))
-  one-worth second name (has-one f m) (has-none p) = absurd (never (sym (finds-defined f) ∙ p))
+  one-worth second name (has-none p) (has-one f m) = absurd (true≢false (sym (finds-defined f) ∙ p))
+  one-worth second name (has-one f m) (has-none p) = absurd (true≢false (sym (finds-defined f) ∙ p))
   one-worth second name (has-one f m) (has-one {v = v} f′ m′) = one-meaning m (finds-one (λ k x. Means a a′ second k x v) f f′ m′)

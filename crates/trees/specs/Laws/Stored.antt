@@ -1,11 +1,12 @@
 -- Node i of a stored ad is the i-th node of its tree. Assumes nothing.
-use Prim.Native.Nat.{ℕ, zero, suc, _+_, _-_, _*_, _≤_, _<_}
+use Prim.Native.Nat.{ℕ, zero, suc, _+_, _-_, _≤_, _<_}
 use native.Mathlib.Omega.{arith}
 use mathlib.Core.Path.{_≡_, refl, sym, ap, _∙_, subst}
 use mathlib.Core.Bool.{cond}
 use mathlib.Core.List.{List, [], _∷_, _++_, append-assoc}
 use lib.ListN.{length, getD, take, drop, replicate, length-append}
 use lib.Seq.{take-append-seam, drop-append-seam, drop-drop}
+use Rattle.links.specs.Laws.Layout.{kind-next, operand-next}
 use Rattle.syntax.specs.Tree.{Literal, undefined, error, boolean, integer, real, string, Scope, own, other, Expr, literal, reference, unary, binary, conditional, Ad, size, nodes}
 use Rattle.syntax.specs.declared.Binary.{Binary}
 use Rattle.syntax.specs.declared.Binary.the-variants.{Or, And, Equal, NotEqual, Is, Isnt, Less, LessOrEqual, Greater, GreaterOrEqual, Add, Subtract, Multiply, Divide, Remainder}
@@ -103,12 +104,6 @@ module _ (b : List ℕ) where
       (ad-packs (n + size (d .expression)) (o + length x + length y) ds rest h₃ (omega arith))
 
   -- ---- by their index, whatever follows them
-
-  kind-next : (k x y z : ℕ) (l : List ℕ) (i : ℕ) → kindAt (k ∷ x ∷ y ∷ z ∷ l) (suc i) ≡ kindAt l i
-  kind-next k x y z l i = ap (λ (u : ℕ). getD (k ∷ x ∷ y ∷ z ∷ l) u 0) (let q : 4 * suc i ≡ suc (suc (suc (suc (4 * i)))) = omega arith in q)
-
-  operand-next : (k x y z : ℕ) (l : List ℕ) (i j : ℕ) → operandAt (k ∷ x ∷ y ∷ z ∷ l) (suc i) j ≡ operandAt l i j
-  operand-next k x y z l i j = ap (λ (u : ℕ). getD (k ∷ x ∷ y ∷ z ∷ l) u 0) (let q : 4 * suc i + 1 + j ≡ suc (suc (suc (suc (4 * i + 1 + j)))) = omega arith in q)
 
   -- the words of a node, by its index
   abbrev wordsAt : List ℕ → ℕ → List ℕ

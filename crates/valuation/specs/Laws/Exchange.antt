@@ -1,17 +1,16 @@
 -- Two lists of the same graph from roots in another order: the same entries, and as many.
-use mathlib.Core.Path.{_≡_, refl, sym, ap, ap₂, _∙_, subst}
-use mathlib.Core.Logic.{_↔_, _≢_, _⊎_, inl, inr}
+use mathlib.Core.Path.{_≡_, refl, sym, subst}
+use mathlib.Core.Logic.{_⊎_, inl, inr}
 use mathlib.Core.List.{List, [], _∷_, _++_, map}
-use Prim.Native.Nat.{ℕ, zero, suc, _+_, _≤_, _<_}
+use Prim.Native.Nat.{ℕ, _≤_}
 use native.Mathlib.Omega.{arith}
-use native.Mathlib.Nat.{le-antisymm}
 use lib.ListN.{length, length-map}
-use Rattle.graph.specs.Members.{_∈_, here, there, Each, Distinct, dnil, dcons}
-use Rattle.graph.specs.Laws.Members.{mem-nil, mem-cons, mem-cast, mem-left, mem-right, mem-append, Less, less}
-use Rattle.graph.specs.Graph.{Graph, Sound, Path⁺, one, more, Path⋆, Flags, needs, Entered, none, again, fresh, IsList}
+use Rattle.graph.specs.Members.{_∈_, here, Each, Distinct, dnil, dcons}
+use Rattle.graph.specs.Laws.Members.{mem-nil, mem-cons, mem-cast, mem-left, mem-append, Less, less}
+use Rattle.graph.specs.Graph.{Graph, Sound, Path⁺, one, more, Path⋆, needs, Entered, none, again, fresh, IsList}
 use Rattle.graph.specs.Laws.DepthFirst.{entered-came, entered-distinct}
 use Rattle.graph.specs.Laws.Traversal.{needs-acyclic}
-use Rattle.valuation.specs.Laws.Values.{entered-keeps, entered-in}
+use Rattle.valuation.specs.Laws.Values.{entered-in}
 use Rattle.valuation.specs.Laws.Transfer.{Embeds, needs-closed, graph-needs, entered-goes, mem-map, map-mem}
 
 pub fits-in : (b : List ℕ) {a : List ℕ} → Distinct a → ((y : ℕ) → y ∈ a → y ∈ b) → length a ≤ length b

@@ -1,11 +1,11 @@
 -- The list's order: what an entry needs stands before it, and no entry stands twice.
-use mathlib.Core.Path.{_≡_, refl, sym, ap, _∙_, subst}
+use mathlib.Core.Path.{_≡_, sym, subst}
 use mathlib.Core.Logic.{_⊎_, inl, inr}
 use mathlib.Core.List.{List, [], _∷_, _++_, append-assoc, append-nil}
 use Prim.Native.Nat.{ℕ, zero, suc}
-use lib.ListN.{take, drop, length}
-use Rattle.graph.specs.Members.{_∈_, here, there, Each, Distinct, dnil, dcons}
-use Rattle.graph.specs.Laws.Members.{mem-nil, mem-cons, mem-cast, mem-left, mem-right, mem-append}
+use lib.ListN.{take, drop}
+use Rattle.graph.specs.Members.{_∈_}
+use Rattle.graph.specs.Laws.Members.{mem-nil, mem-cons, mem-cast, mem-left}
 use Rattle.graph.specs.Graph.{Path⁺, one, more, Path⋆, Entered, none, again, fresh}
 use Rattle.graph.specs.Laws.DepthFirst.{entered-came}
 use Rattle.valuation.specs.Laws.Values.{entered-in}

@@ -1,12 +1,11 @@
 -- What a run comes to, from any entry and over any table, and from the first over a blank one. Assumes nothing.
 use mathlib.Core.Path.{_≡_, refl, sym, ap, ap₂, _∙_, subst}
-use mathlib.Core.Logic.{_≢_, _⊎_, inl, inr}
+use mathlib.Core.Logic.{_⊎_, inl, inr}
 use mathlib.Core.List.{List, [], _∷_, _++_, map, append-assoc}
-use Prim.Native.Nat.{ℕ, zero, suc, _+_, _≤_, _<_, min}
-use native.Mathlib.Decide.{ℕ-discrete}
-use lib.ListN.{take, drop, length}
-use Rattle.graph.specs.Members.{_∈_, here, there, Each, put}
-use Rattle.graph.specs.Laws.Members.{mem-nil, mem-cons, mem-cast, mem-left, mem-right, mem-append, mem-dec, put-same, put-other}
+use Prim.Native.Nat.{ℕ}
+use lib.ListN.{take, drop}
+use Rattle.graph.specs.Members.{_∈_, here, there, Each}
+use Rattle.graph.specs.Laws.Members.{mem-nil, mem-cons, mem-cast, mem-left, mem-right, mem-append, put-same, put-other}
 use Rattle.graph.specs.Graph.{Path⁺, Entered}
 use Rattle.valuation.specs.Gives.{Give, nil, cons, Gives}
 use Rattle.valuation.specs.Run.{stepTable, steps, runFrom, Settled, Ran}

@@ -1,18 +1,14 @@
 -- What carries over from one graph to another: f takes the nodes R of the first, a part that no link leaves, to nodes of the second, with their links, references and rules.
 -- With R all nodes and f the exchange of the sides, this is the match with its ads exchanged. With R what is reached from the roots, it is a change of what is not reached.
 use mathlib.Core.Path.{_≡_, refl, sym, ap, ap₂, _∙_, subst}
-use mathlib.Core.Logic.{_↔_, _≢_, _⊎_, inl, inr}
+use mathlib.Core.Logic.{_⊎_, inl, inr}
 use mathlib.Core.Bool.{Bool, true, false, cond}
 use mathlib.Core.List.{List, [], _∷_, _++_, map}
 use Prim.Native.Nat.{ℕ}
-use native.Mathlib.Omega.{arith}
-use lib.ListN.{length, length-map}
 use Rattle.graph.specs.Members.{_∈_, here, there, Each}
-use Rattle.graph.specs.Laws.Members.{mem-nil, mem-cons, mem-cast, mem-left, mem-right, mem-append}
-use Rattle.graph.specs.Graph.{Graph, Path⁺, one, more, Path⋆, Circular, Flags, needs, Entered, none, again, fresh, IsList}
-use Rattle.graph.specs.Laws.Order.{entered-unique}
+use Rattle.graph.specs.Laws.Members.{mem-nil, mem-cons, mem-cast, mem-append}
+use Rattle.graph.specs.Graph.{Graph, Path⁺, one, more, Circular, Flags, needs, Entered, none, again, fresh}
 use Rattle.valuation.specs.Gives.{Give, nil, cons, Gives}
-use Rattle.valuation.specs.Laws.Values.{entered-keeps, entered-in}
 
 -- one for one
 pub data Alike {A B : Type 0} (Same : A → B → Type 0) : List A → List B → Type 0 where
@@ -173,24 +169,3 @@ module _ {G G′ : Graph} {f : ℕ → ℕ} {R : ℕ → Type 0} (e : Embeds G G
     pub carries : {A B : Type 0} {rule : ℕ → List A → A} {rule′ : ℕ → List B → B} {Same : A → B → Type 0} →
         ((x : ℕ) → R x → (us : List A) (vs : List B) → Alike Same us vs → Same (rule x us) (rule′ (f x) vs)) → Carries (needs G c) (needs G′ c′) rule rule′ Same f R
     carries h = record { closed = needs-closed; needs-go = graph-needs; rules-go = h }
-
-  -- THE TRANSFER, list: where f takes the roots to the roots, it takes the list to the list, entry by entry
-  pub list-goes : {l l′ : List ℕ} → Each R (G .roots) → G′ .roots ≡ map f (G .roots) → IsList G l → IsList G′ l′ → l′ ≡ map f l
-  list-goes {l} {l′} h q (c, fl, d) (c′, fl′, d′) =
-      let a : Entered (needs G′ c′) [] (map f (G .roots)) (map f l) = entered-goes (needs-closed fl fl′) (graph-needs fl fl′) (e .apart) d (λ y m. absurd (mem-nil m)) h in
-      entered-unique d′ (subst (λ (u : List ℕ). Entered (needs G′ c′) [] u (map f l)) (sym q) a)
-
--- What is reached from the roots when every link is followed, circular ones too: a part that no link leaves.
-abbrev pub Reached : Graph → ℕ → Type 0
-Reached G x = (r : ℕ) × (r ∈ G .roots) × Path⋆ (G .links) r x
-
-path-more : {go : ℕ → List ℕ} {x y z : ℕ} → Path⁺ go x y → z ∈ go y → Path⁺ go x z
-path-more (one m) k = more m (one k)
-path-more (more m p) k = more m (path-more p k)
-
-pub reached-closed : (G : Graph) (x : ℕ) → Reached G x → Each (Reached G) (G .links x)
-reached-closed G x (r, m, inl e) y k = (r, m, inr (one (subst (λ (u : ℕ). y ∈ G .links u) (sym e) k)))
-reached-closed G x (r, m, inr p) y k = (r, m, inr (path-more p k))
-
-pub roots-reached : (G : Graph) → Each (Reached G) (G .roots)
-roots-reached G x m = (x, m, inl refl)

@@ -1,5 +1,4 @@
 -- `values::part` meets its contract. Assumes nothing.
-use mathlib.Core.Path.{_∙_}
 use borrow.Author.Needs.{needs}
 use Rattle.values.proofs.part.Statement.{statement}
 use Rattle.values.proofs.part.Tie as tie

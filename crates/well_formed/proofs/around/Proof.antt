@@ -1,12 +1,9 @@
 use mathlib.Core.Path.{refl}
-use Prim.Native.Nat.{_-_}
 use borrow.Author.Tests.{lt-ltb, le-ltb}
 use native.Mathlib.Omega.{arith}
 use borrow.Author.Needs.{needs}
 use Rattle.well_formed.proofs.around.Statement.{statement}
 use Rattle.well_formed.proofs.around.Tie as tie
-use Rattle.well_formed.proofs.around.Reads as reads
-use Rattle.well_formed.proofs.around.Lts as lts
 
 returns : tie.Need-returns
 returns c = (rw (lt-ltb _ _ (c .if1 .taken)) refl, omega arith)

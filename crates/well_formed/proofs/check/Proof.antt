@@ -1,12 +1,8 @@
 use mathlib.Core.Path.{sym}
-use Prim.Native.Nat.{_-_}
 use lib.Seq.{length-take-le}
 use Rattle.well_formed.proofs.Answer.{small-words, small-bytes}
 use Rattle.well_formed.proofs.check.Statement.{statement}
 use Rattle.well_formed.proofs.check.Tie as tie
-use Rattle.well_formed.proofs.check.Reads as reads
-use Rattle.well_formed.proofs.check.Lts as lts
-use Rattle.well_formed.proofs.check_room.Reads as check-room-reads
 
 returns : tie.Need-returns
 returns c =

@@ -1,5 +1,4 @@
 use mathlib.Core.Path.{sym, _∙_}
-use Prim.Native.Nat.{_-_}
 use Rattle.lexemes.proofs.Laws.{ands}
 use Rattle.well_formed.proofs.Answer.{room-bad, rows-inside, room-not, room-good}
 use Rattle.well_formed.proofs.Entries.{rows-room}
@@ -7,13 +6,6 @@ use native.Mathlib.Omega.{arith}
 use borrow.Author.Needs.{needs}
 use Rattle.well_formed.proofs.check_room.Statement.{statement}
 use Rattle.well_formed.proofs.check_room.Tie as tie
-use Rattle.well_formed.proofs.check_room.Reads as reads
-use Rattle.well_formed.proofs.check_room.Lts as lts
-use Rattle.lexemes.proofs.both.Reads as both-reads
-use Rattle.well_formed.proofs.distinct.Reads as distinct-reads
-use Rattle.well_formed.proofs.print_length.Reads as print-length-reads
-use Rattle.well_formed.proofs.rows_from.Reads as rows-from-reads
-use Rattle.well_formed.proofs.zero_behind.Reads as zero-behind-reads
 
 rows-from-requires : tie.Need-rows-from-requires
 rows-from-requires c κs =

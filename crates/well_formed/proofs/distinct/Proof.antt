@@ -8,12 +8,6 @@ use borrow.Author.Needs.{needs}
 use native.Mathlib.Omega.{arith}
 use Rattle.well_formed.proofs.distinct.Statement.{statement}
 use Rattle.well_formed.proofs.distinct.Tie as tie
-use Rattle.well_formed.proofs.distinct.Reads as reads
-use Rattle.well_formed.proofs.distinct.Lts as lts
-use Rattle.ad.proofs.defined.Reads as defined-reads
-use Rattle.ad.proofs.name_length.Reads as name-length-reads
-use Rattle.ad.proofs.offset.Reads as offset-reads
-use Rattle.ad.proofs.part.Reads as part-reads
 
 abbrev Inv-loop : tie.InvT-loop
 Inv-loop words bytes d j₀ j = (j ≤ d) × (newFrom words bytes j (d - j) ≡ newFrom words bytes 0 d)

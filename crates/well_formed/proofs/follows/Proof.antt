@@ -1,10 +1,7 @@
-use Prim.Native.Nat.{_-_}
 use Rattle.well_formed.proofs.Tests.{follows-not}
 use borrow.Author.Needs.{needs}
 use Rattle.well_formed.proofs.follows.Statement.{statement}
 use Rattle.well_formed.proofs.follows.Tie as tie
-use Rattle.well_formed.proofs.follows.Reads as reads
-use Rattle.well_formed.proofs.follows.Lts as lts
 
 returns-2 : tie.Need-returns-2
 returns-2 c = follows-not (c .before .args .x) (c .before .args .i) (c .if1 .left)

@@ -1,14 +1,9 @@
 use mathlib.Core.Path.{sym, _∙_, ap}
-use Prim.Native.Nat.{_-_}
 use Rattle.well_formed.proofs.Tests.{walk-if, walk-bad}
 use Rattle.well_formed.specs.Inner.Decode.{integerFits, plainWalk}
 use borrow.Author.Needs.{needs}
 use Rattle.well_formed.proofs.integer_walk.Statement.{statement}
 use Rattle.well_formed.proofs.integer_walk.Tie as tie
-use Rattle.well_formed.proofs.integer_walk.Reads as reads
-use Rattle.well_formed.proofs.integer_walk.Lts as lts
-use Rattle.lexemes.proofs.both.Reads as both-reads
-use Rattle.lexemes.proofs.decimal_length.Reads as decimal-length-reads
 
 returns : tie.Need-returns
 returns c =

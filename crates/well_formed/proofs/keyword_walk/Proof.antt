@@ -1,13 +1,9 @@
 use mathlib.Core.Path.{sym, _∙_}
-use Prim.Native.Nat.{_-_}
 use Rattle.well_formed.proofs.Tests.{walk-if, walk-bad}
 use Rattle.well_formed.specs.Inner.Decode.{keywordFits}
 use borrow.Author.Needs.{needs}
 use Rattle.well_formed.proofs.keyword_walk.Statement.{statement}
 use Rattle.well_formed.proofs.keyword_walk.Tie as tie
-use Rattle.well_formed.proofs.keyword_walk.Reads as reads
-use Rattle.well_formed.proofs.keyword_walk.Lts as lts
-use Rattle.lexemes.proofs.both.Reads as both-reads
 
 returns : tie.Need-returns
 returns c =

@@ -1,18 +1,7 @@
-use Prim.Native.Nat.{_-_}
 use Rattle.well_formed.proofs.Tests.{leaf-third, leaf-is, leaf-none, leaf-undefined, leaf-error, leaf-boolean, leaf-integer, leaf-real, leaf-string, leaf-own, leaf-other}
 use borrow.Author.Needs.{needs}
 use Rattle.well_formed.proofs.leaf_walk.Statement.{statement}
 use Rattle.well_formed.proofs.leaf_walk.Tie as tie
-use Rattle.well_formed.proofs.leaf_walk.Reads as reads
-use Rattle.well_formed.proofs.leaf_walk.Lts as lts
-use Rattle.ad.proofs.kind.Reads as kind-reads
-use Rattle.ad.proofs.operand.Reads as operand-reads
-use Rattle.well_formed.proofs.boolean_walk.Reads as boolean-walk-reads
-use Rattle.well_formed.proofs.integer_walk.Reads as integer-walk-reads
-use Rattle.well_formed.proofs.keyword_walk.Reads as keyword-walk-reads
-use Rattle.well_formed.proofs.name_walk.Reads as name-walk-reads
-use Rattle.well_formed.proofs.real_walk.Reads as real-walk-reads
-use Rattle.well_formed.proofs.string_walk.Reads as string-walk-reads
 
 returns : tie.Need-returns
 returns c =

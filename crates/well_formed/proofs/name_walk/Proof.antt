@@ -1,6 +1,5 @@
 use mathlib.Core.Path.{sym, _∙_, ap}
 use mathlib.Core.Bool.{_&&_}
-use Prim.Native.Nat.{_-_}
 use Rattle.lexemes.specs.Inner.Lexeme.{isName}
 use Rattle.ad.specs.Stored.{bytesAt}
 use Rattle.well_formed.specs.Inner.Decode.{standsAt}
@@ -10,12 +9,6 @@ use native.Mathlib.Omega.{arith}
 use borrow.Author.Needs.{needs}
 use Rattle.well_formed.proofs.name_walk.Statement.{statement}
 use Rattle.well_formed.proofs.name_walk.Tie as tie
-use Rattle.well_formed.proofs.name_walk.Reads as reads
-use Rattle.well_formed.proofs.name_walk.Lts as lts
-use Rattle.ad.proofs.part.Reads as part-reads
-use Rattle.lexemes.proofs.both.Reads as both-reads
-use Rattle.lexemes.proofs.is_name.Reads as is-name-reads
-use Rattle.well_formed.proofs.stands.Reads as stands-reads
 
 add-t10 : tie.Need-add-t10
 add-t10 c =

@@ -1,13 +1,10 @@
 use mathlib.Core.Path.{refl}
-use Prim.Native.Nat.{_-_}
 use Rattle.syntax.specs.Print.{binaryText}
 use Rattle.text.specs.Bytes.{bytes}
 use native.Mathlib.Omega.{arith}
 use borrow.Author.Needs.{needs}
 use Rattle.well_formed.proofs.operator_length.Statement.{statement}
 use Rattle.well_formed.proofs.operator_length.Tie as tie
-use Rattle.well_formed.proofs.operator_length.Reads as reads
-use Rattle.well_formed.proofs.operator_length.Lts as lts
 
 returns : tie.Need-returns
 unfolding binaryText bytes

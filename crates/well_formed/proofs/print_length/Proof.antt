@@ -1,10 +1,7 @@
 use mathlib.Core.Path.{refl}
-use Prim.Native.Nat.{_-_}
 use borrow.Author.Tests.{ne-eqb}
 use Rattle.well_formed.proofs.print_length.Statement.{statement}
 use Rattle.well_formed.proofs.print_length.Tie as tie
-use Rattle.well_formed.proofs.print_length.Reads as reads
-use Rattle.well_formed.proofs.print_length.Lts as lts
 
 returns : tie.Need-returns
 returns c = rw (c .if1 .taken) refl

@@ -1,15 +1,10 @@
 use mathlib.Core.Path.{sym, _∙_, ap}
-use Prim.Native.Nat.{_-_}
 use Rattle.well_formed.proofs.Tests.{walk-if, walk-bad, places-few}
 use Rattle.well_formed.specs.Inner.Decode.{plainWalk}
 use Rattle.lexemes.specs.Inner.Lexeme.{isReal}
 use borrow.Author.Needs.{needs}
 use Rattle.well_formed.proofs.real_walk.Statement.{statement}
 use Rattle.well_formed.proofs.real_walk.Tie as tie
-use Rattle.well_formed.proofs.real_walk.Reads as reads
-use Rattle.well_formed.proofs.real_walk.Lts as lts
-use Rattle.lexemes.proofs.is_real.Reads as is-real-reads
-use Rattle.lexemes.proofs.real_length.Reads as real-length-reads
 
 real-length-requires : tie.Need-real-length-requires
 real-length-requires c κs =

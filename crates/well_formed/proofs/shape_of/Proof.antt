@@ -1,15 +1,9 @@
 use mathlib.Core.Path.{refl, sym, _∙_}
-use Prim.Native.Nat.{_-_}
 use Rattle.well_formed.specs.Inner.Decode.{shapeOf}
 use borrow.Author.Tests.{lt-ltb, le-ltb, eq-eqb, ne-eqb}
 use borrow.Author.Needs.{needs}
 use Rattle.well_formed.proofs.shape_of.Statement.{statement}
 use Rattle.well_formed.proofs.shape_of.Tie as tie
-use Rattle.well_formed.proofs.shape_of.Reads as reads
-use Rattle.well_formed.proofs.shape_of.Lts as lts
-use Rattle.well_formed.proofs.one_fits.Reads as one-fits-reads
-use Rattle.well_formed.proofs.three_fits.Reads as three-fits-reads
-use Rattle.well_formed.proofs.two_fits.Reads as two-fits-reads
 
 returns : tie.Need-returns
 unfolding shapeOf

@@ -1,12 +1,7 @@
 use mathlib.Core.Path.{refl, _∙_}
-use Prim.Native.Nat.{_-_}
 use borrow.Author.Needs.{needs}
 use Rattle.well_formed.proofs.stands.Statement.{statement}
 use Rattle.well_formed.proofs.stands.Tie as tie
-use Rattle.well_formed.proofs.stands.Reads as reads
-use Rattle.well_formed.proofs.stands.Lts as lts
-use Rattle.ad.proofs.part.Reads as part-reads
-use Rattle.lexemes.proofs.both.Reads as both-reads
 
 returns : tie.Need-returns
 returns c = c .both .ensures ∙ rw (c .before .part .ensures) refl

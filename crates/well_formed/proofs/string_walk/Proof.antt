@@ -1,6 +1,6 @@
 use mathlib.Core.Path.{sym, _∙_, ap}
 use mathlib.Core.Bool.{_&&_}
-use Prim.Native.Nat.{ℕ, _+_, _-_}
+use Prim.Native.Nat.{ℕ, _+_}
 use lib.ListN.{length}
 use Rattle.lexemes.specs.Inner.Lexeme.{isString}
 use Rattle.ad.specs.Stored.{bytesAt}
@@ -15,13 +15,6 @@ use native.Mathlib.Omega.{arith}
 use borrow.Author.Needs.{needs}
 use Rattle.well_formed.proofs.string_walk.Statement.{statement}
 use Rattle.well_formed.proofs.string_walk.Tie as tie
-use Rattle.well_formed.proofs.string_walk.Reads as reads
-use Rattle.well_formed.proofs.string_walk.Lts as lts
-use Rattle.ad.proofs.part.Reads as part-reads
-use Rattle.lexemes.proofs.both.Reads as both-reads
-use Rattle.lexemes.proofs.is_string.Reads as is-string-reads
-use Rattle.lexemes.proofs.string_length.Reads as string-length-reads
-use Rattle.well_formed.proofs.stands.Reads as stands-reads
 
 add-t9 : tie.Need-add-t9
 add-t9 c =

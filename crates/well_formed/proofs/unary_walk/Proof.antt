@@ -1,10 +1,6 @@
-use Prim.Native.Nat.{_-_}
 use borrow.Author.Needs.{needs}
 use Rattle.well_formed.proofs.unary_walk.Statement.{statement}
 use Rattle.well_formed.proofs.unary_walk.Tie as tie
-use Rattle.well_formed.proofs.unary_walk.Reads as reads
-use Rattle.well_formed.proofs.unary_walk.Lts as lts
-use Rattle.well_formed.proofs.around.Reads as around-reads
 
 returns : tie.Need-returns
 returns c = cc

@@ -1,12 +1,9 @@
 use mathlib.Core.Path.{sym, ap}
-use Prim.Native.Nat.{_-_}
 use Rattle.well_formed.specs.Inner.Decode.{rowBefore}
 use native.Mathlib.Omega.{arith}
 use borrow.Author.Needs.{needs}
 use Rattle.well_formed.proofs.with_row.Statement.{statement}
 use Rattle.well_formed.proofs.with_row.Tie as tie
-use Rattle.well_formed.proofs.with_row.Reads as reads
-use Rattle.well_formed.proofs.with_row.Lts as lts
 
 add-t11 : tie.Need-add-t11
 add-t11 c = let h = (rw (c .before .rest .given .1) at (c .before .before .before .pre .2)) in omega arith

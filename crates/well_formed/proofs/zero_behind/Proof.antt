@@ -1,5 +1,5 @@
 use mathlib.Core.Path.{_∙_, ap}
-use Prim.Native.Nat.{_+_, _-_, _*_}
+use Prim.Native.Nat.{_+_, _*_}
 use Rattle.well_formed.proofs.Tests.{rest-all}
 use Rattle.lexemes.proofs.Laws.{ands}
 use Rattle.lexemes.specs.Inner.Lexeme.{every}
@@ -7,11 +7,6 @@ use Rattle.well_formed.specs.Inner.Decode.{isZero}
 use borrow.Author.Needs.{needs}
 use Rattle.well_formed.proofs.zero_behind.Statement.{statement}
 use Rattle.well_formed.proofs.zero_behind.Tie as tie
-use Rattle.well_formed.proofs.zero_behind.Reads as reads
-use Rattle.well_formed.proofs.zero_behind.Lts as lts
-use Rattle.lexemes.proofs.both.Reads as both-reads
-use Rattle.well_formed.proofs.zero_bytes.Reads as zero-bytes-reads
-use Rattle.well_formed.proofs.zero_words.Reads as zero-words-reads
 
 returns : tie.Need-returns
 returns c =

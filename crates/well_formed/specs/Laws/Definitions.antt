@@ -9,6 +9,7 @@ use lib.ListN.{length, getD, drop}
 use lib.Seq.{drop-cons, getD-drop}
 use lib.Dec.{ltb, leb, eqb}
 use borrow.Author.Tests.{ltb-true, leb-true, eqb-true, lt-ltb, le-leb, eq-eqb, ne-eqb}
+use Rattle.text.specs.Laws.Booleans.{and-left, and-right, and-both}
 use Rattle.syntax.specs.Bounds.{maxNodes, maxLevel}
 use Rattle.syntax.specs.Tree.{Expr, Definition, Ad, size, nodes}
 use Rattle.syntax.specs.Token.{pick}
@@ -21,7 +22,6 @@ use Rattle.ad.specs.Laws.Content.{length-nodes, size-some}
 use Rattle.round_trip.specs.Bounded.{isWritable, areWritable}
 use Rattle.well_formed.specs.Inner.Decode.{Found, got, bad, treeAt, FoundAd, all, none, chainAd, withTree, testAd, standsAt, entryFits, adAt}
 use Rattle.well_formed.specs.Laws.Runs.{Stands, stands-none, stands-at, stands-as, stands-join, stands-left, stands-right, bytes-of, bytes-are}
-use Rattle.well_formed.specs.Laws.Shapes.{and-left, and-right, and-both}
 use Rattle.well_formed.specs.Laws.Leaves.{All, Run}
 use Rattle.well_formed.specs.Laws.Trees.{tree-sound, tree-complete}
 

@@ -1,5 +1,5 @@
 -- Literals and references as they stand in memory. Assumes nothing.
-use Prim.Native.Nat.{ℕ, zero, suc, _+_, _-_, _*_, _≤_, _<_}
+use Prim.Native.Nat.{ℕ, zero, suc, _+_, _*_, _≤_, _<_}
 use native.Mathlib.Omega.{arith}
 use mathlib.Core.Path.{_≡_, refl, sym}
 use mathlib.Core.Bool.{Bool, true, false, cond, _&&_}
@@ -7,6 +7,7 @@ use mathlib.Core.List.{List, []}
 use lib.ListN.{length}
 use lib.Dec.{leb, eqb}
 use borrow.Author.Tests.{leb-true, eqb-true, eq-eqb}
+use Rattle.text.specs.Laws.Booleans.{and-left, and-right}
 use Rattle.syntax.specs.Tree.{Literal, undefined, error, boolean, integer, real, string, Scope, own, other, Expr, literal, reference, size}
 use Rattle.syntax.specs.Token.{pick}
 use Rattle.lexemes.specs.Inner.Lexeme.{isName, isString, isLiteral}
@@ -15,7 +16,6 @@ use Rattle.ad.specs.Stored.{kindAt, operandAt, bytesAt}
 use Rattle.round_trip.specs.Bounded.{isWritable}
 use Rattle.well_formed.specs.Inner.Decode.{Found, got, bad, chain, test, standsAt, leafOf, leafAt}
 use Rattle.well_formed.specs.Laws.Runs.{Stands, stands-none, stands-as, node-of, kind-is, first-is, second-is, third-is, bytes-of, bytes-are}
-use Rattle.well_formed.specs.Laws.Shapes.{and-left, and-right}
 
 -- what holds of the tree that is found, if one is
 abbrev pub All : (Expr → Type 0) → Found → Type 0

@@ -2,11 +2,11 @@
 use mathlib.Core.Path.{_≡_}
 use mathlib.Core.Bool.{true, _&&_}
 use mathlib.Core.List.{[], _∷_}
+use Rattle.text.specs.Laws.Booleans.{and-left, and-right}
 use Rattle.syntax.specs.Tree.{Ad}
 use Rattle.lexemes.specs.Inner.Lexeme.{isName}
 use Rattle.ad.specs.Layout.{Named}
 use Rattle.round_trip.specs.Bounded.{isWritable, areWritable, Bounded}
-use Rattle.well_formed.specs.Laws.Shapes.{and-left, and-right}
 use Rattle.well_formed.specs.Laws.Definitions.{name-some}
 
 pub writable-named : (a : Ad) → areWritable a ≡ true → Named a

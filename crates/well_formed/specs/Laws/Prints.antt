@@ -1,5 +1,5 @@
 -- How long and how deep an expression prints, at most. Assumes nothing.
-use Prim.Native.Nat.{ℕ, _+_, _-_, _*_, _^_, _≤_, _<_}
+use Prim.Native.Nat.{ℕ, _+_, _*_, _^_, _≤_, _<_}
 use Prim.Native.Char.{code}
 use native.Mathlib.Omega.{arith}
 use mathlib.Core.Path.{_≡_, refl, _∙_}
@@ -8,6 +8,7 @@ use mathlib.Core.List.{List, [], _∷_, _++_}
 use lib.ListN.{length, length-append}
 use lib.Dec.{ltb, leb, eqb}
 use borrow.Author.Tests.{ltb-true, leb-true}
+use Rattle.text.specs.Laws.Booleans.{and-left, and-right}
 use Rattle.text.specs.Bytes.{bytes}
 use Rattle.syntax.specs.Tree.{Literal, undefined, error, boolean, integer, real, string, Scope, own, other, Expr, literal, reference, unary, binary, conditional, Definition, Ad, size, nodes}
 use Rattle.syntax.specs.Token.{pick}
@@ -22,7 +23,6 @@ use Rattle.lexemes.specs.Laws.Digits.{decimal-short, real-short}
 use Rattle.ad.specs.Layout.{literalBytes, exprBytes, adBytes}
 use Rattle.round_trip.specs.Bounded.{isWritable, areWritable}
 use Rattle.well_formed.specs.Inner.Decode.{rowsLength}
-use Rattle.well_formed.specs.Laws.Shapes.{and-left, and-right}
 
 -- ---- literals
 
@@ -98,9 +98,6 @@ length-wrap k b t = go (ltb b k)
     go : (c : Bool) → length (pick c (λ _. code "(" ∷ (t ++ code ")" ∷ [])) (λ _. t)) ≡ cond c (length t + 2) (length t)
     go true = simp length-append (omega arith)
     go false = refl
-
-wrap-short : (k b : ℕ) (t : List ℕ) → length (wrap k b t) ≤ length t + 2
-wrap-short k b t = omega (arith, length-wrap k b t, around-short k b (length t) 2)
 
 -- ---- expressions
 

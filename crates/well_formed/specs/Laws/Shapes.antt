@@ -5,21 +5,10 @@ use mathlib.Core.Path.{_≡_, refl}
 use mathlib.Core.Bool.{Bool, true, false, cond, _&&_}
 use lib.Dec.{ltb, leb, eqb}
 use borrow.Author.Tests.{ltb-true, ltb-false, leb-true, eqb-true, eqb-false, lt-ltb, le-ltb, le-leb, eq-eqb, ne-eqb}
+use Rattle.text.specs.Laws.Booleans.{and-left, and-right}
 use Rattle.well_formed.specs.Inner.Decode.{oneFits, twoFits, threeFits, shapeOf}
 use Rattle.well_formed.specs.declared.Shape.{Shape}
 use Rattle.well_formed.specs.declared.Shape.the-variants.{Leaf, One, Two, Three, Nothing}
-
-pub and-left : (a b : Bool) → (a && b) ≡ true → a ≡ true
-and-left true b e = refl
-and-left false b e = e
-
-pub and-right : (a b : Bool) → (a && b) ≡ true → b ≡ true
-and-right true b e = e
-and-right false true e = refl
-and-right false false e = e
-
-pub and-both : {a b : Bool} → a ≡ true → b ≡ true → (a && b) ≡ true
-and-both {a} {b} p q = rw (p, q) refl
 
 -- what the shape of a node of kind k with the words x, y and z says
 abbrev pub Facts : ℕ → ℕ → ℕ → ℕ → ℕ → ℕ → Shape → Type 0

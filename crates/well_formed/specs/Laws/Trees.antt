@@ -5,6 +5,7 @@ use mathlib.Core.Path.{_≡_, refl, sym, _∙_, ap, subst}
 use mathlib.Core.Bool.{true, _&&_}
 use mathlib.Core.List.{List, [], _++_, append-nil}
 use lib.ListN.{length}
+use Rattle.text.specs.Laws.Booleans.{and-left, and-right, and-both}
 use Rattle.syntax.specs.Tree.{Expr, literal, reference, unary, binary, conditional, size}
 use Rattle.syntax.specs.declared.Binary.{Binary}
 use Rattle.syntax.specs.declared.Unary.{Unary}
@@ -14,7 +15,7 @@ use Rattle.ad.specs.Laws.Content.{unary-found, unary-range, binary-found, binar
 use Rattle.round_trip.specs.Bounded.{isWritable}
 use Rattle.well_formed.specs.Inner.Decode.{Found, got, shapeAt, onShape, leafAt, treeAt}
 use Rattle.well_formed.specs.Laws.Runs.{Stands, stands-at, stands-as, stands-join, stands-left, stands-right, node-of, kind-is, first-is, second-is, third-is}
-use Rattle.well_formed.specs.Laws.Shapes.{and-left, and-right, and-both, Facts, shape-facts, leaf-shape, one-shape, two-shape, three-shape}
+use Rattle.well_formed.specs.Laws.Shapes.{Facts, shape-facts, leaf-shape, one-shape, two-shape, three-shape}
 use Rattle.well_formed.specs.Laws.Leaves.{All, on-chain, Run, leaf-sound, literal-complete, name-complete}
 use Rattle.well_formed.specs.declared.Shape.{Shape}
 use Rattle.well_formed.specs.declared.Shape.the-variants.{Leaf, One, Two, Three, Nothing}

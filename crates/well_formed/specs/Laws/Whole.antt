@@ -3,23 +3,23 @@ use Prim.Native.Nat.{ℕ, zero, suc, _+_, _-_, _*_, _≤_, _<_}
 use native.Mathlib.Nat.{add-zero, zero-add}
 use native.Mathlib.Omega.{arith}
 use mathlib.Core.Path.{_≡_, refl, sym, _∙_, ap, subst}
-use mathlib.Core.Bool.{Bool, true, false, not, _&&_}
+use mathlib.Core.Bool.{Bool, true, not, _&&_}
 use mathlib.Core.List.{List, [], _∷_, _++_, append-assoc}
 use lib.ListN.{length, getD, take, drop, replicate, length-append, length-take, length-drop, length-replicate, getD-replicate, take-append-drop}
 use lib.Seq.{drop-at, take-at, drop-drop, getD-drop, drop-append-seam, take-append-add}
-use borrow.Author.Tests.{eqb-true}
+use borrow.Author.Tests.{eqb-true, not-true}
+use Rattle.text.specs.Laws.Booleans.{and-left, and-right, and-both}
 use Rattle.syntax.specs.Tree.{Definition, Ad, size, nodes}
 use Rattle.syntax.specs.Grammar.{defined, NewAfter, Distinct, Within}
 use Rattle.lexemes.specs.Inner.Lexeme.{every}
 use Rattle.ad.specs.Layout.{exprBytes, adBytes, adNodes, adDefinitions, storedWords, storedBytes}
 use Rattle.ad.specs.Stored.{offsetAt, lengthAt, bytesAt, definedIn}
-use Rattle.ad.specs.Laws.Content.{length-ad}
+use Rattle.ad.specs.Laws.Content.{length-ad, length-entries, padded-length}
 use Rattle.ad.specs.Laws.Names.{names-in}
 use Rattle.well_formed.specs.WellFormed.{Holds}
 use Rattle.well_formed.specs.Laws.Bounds.{bounded, holds}
 use Rattle.well_formed.specs.Inner.Decode.{all, adAt, newFrom, isZero, zeroBehind}
 use Rattle.well_formed.specs.Laws.Runs.{Stands, stands-at, stands-as, stands-front, stands-left, stands-right, stands-inside, bytes-are}
-use Rattle.well_formed.specs.Laws.Shapes.{and-left, and-right, and-both}
 use Rattle.well_formed.specs.Laws.Definitions.{Table, offset-is, length-is, AllAd, ad-sound, ad-few, ad-complete}
 
 -- ---- an ad in two parts
@@ -39,20 +39,11 @@ unfolding adBytes
 bytes-append [] c = refl
 bytes-append (d ∷ a) c = rw (bytes-append a c) (sym (append-assoc (d .name) (exprBytes (d .expression) ++ adBytes a) (adBytes c) ∙ ap (_++_ (d .name)) (append-assoc (exprBytes (d .expression)) (adBytes a) (adBytes c))))
 
-pub length-entries : (n o : ℕ) (a : Ad) → length (adDefinitions n o a) ≡ 3 * length a
-unfolding adDefinitions
-length-entries n o [] = refl
-length-entries n o (d ∷ a) = omega (arith, length-entries (n + size (d .expression)) (o + length (d .name) + length (exprBytes (d .expression))) a)
-
 -- ---- distinct names
 
 newIn : Ad → Ad → Bool
 newIn a [] = true
 newIn a (d ∷ ds) = not (defined (d .name) a) && newIn (a ++ d ∷ []) ds
-
-not-true : (t : Bool) → not t ≡ true → t ≡ false
-not-true true e = sym e
-not-true false e = refl
 
 new-after : (a ds : Ad) → newIn a ds ≡ true → NewAfter defined a ds
 unfolding newIn NewAfter
@@ -235,10 +226,6 @@ module _ (w b : List ℕ) (hw : length w ≡ 4864) (hb : length b ≡ 16384) whe
       let Z = zeroBehind w b (length a) (nodes a) (length (adBytes a)) in
       table-holds a t few (and-left N Z h) (zeros-of (length a) (nodes a) (length (adBytes a)) few (omega (arith, t .few)) (and-right N Z h))
 
--- what holds an ad has exactly its room
-padded-long : (n : ℕ) (xs : List ℕ) → length xs ≤ n → length (xs ++ replicate (n - length xs) 0) ≡ n
-padded-long n xs h = omega (arith, length-append xs (replicate (n - length xs) 0), length-replicate {A = ℕ} (n - length xs) 0)
-
 pub holds-long : {w b : List ℕ} (a : Ad) → Holds w b a → (length w ≡ 4864) × (length b ≡ 16384)
 unfolding storedWords storedBytes
 holds-long {w} {b} a h =
@@ -246,6 +233,6 @@ holds-long {w} {b} a h =
     let D = adDefinitions 0 0 a in
     let f = bounded h .within .few-nodes in
     let g = bounded h .within .few-definitions in
-    let p = padded-long 4096 N (omega (arith, length-ad 0 0 a)) in
-    let q = padded-long 768 D (omega (arith, length-entries 0 0 a)) in
-    (ap length (h .words) ∙ (length-append (N ++ replicate (4096 - length N) 0) (D ++ replicate (768 - length D) 0) ∙ (omega arith)), ap length (h .bytes) ∙ padded-long 16384 (adBytes a) (h .fits))
+    let p = padded-length 4096 N (omega (arith, length-ad 0 0 a)) in
+    let q = padded-length 768 D (omega (arith, length-entries 0 0 a)) in
+    (ap length (h .words) ∙ (length-append (N ++ replicate (4096 - length N) 0) (D ++ replicate (768 - length D) 0) ∙ (omega arith)), ap length (h .bytes) ∙ padded-length 16384 (adBytes a) (h .fits))

@@ -1,21 +1,18 @@
 -- Which nodes of a small graph lead back to themselves, found by trying. Assumes nothing.
 use Prim.Native.Nat.{ℕ, zero, suc}
-use native.Mathlib.Omega.{arith}
 use mathlib.Core.Path.{_≡_, refl, sym, subst}
 use mathlib.Core.Logic.{_⊎_, inl, inr}
-use mathlib.Core.Bool.{Bool, true, false, cond}
+use mathlib.Core.Bool.{Bool, true, false, cond, false≢true}
 use mathlib.Core.List.{List, [], _∷_, _++_}
+use Rattle.graph.specs.Laws.DepthFirst.{path-snoc}
 use Rattle.graph.specs.Members.{_∈_, here, there, Each}
 use Rattle.graph.specs.Laws.Members.{mem-nil, mem-cons, mem-append}
 use Rattle.graph.specs.Graph.{Path⁺, one, more}
-use Rattle.worked.specs.Laws.Solving.{among, among-in, among-out, path-more}
-
-pub never : false ≡ true → ⊥
-never e = let z : _≡_ {A = ℕ} 0 1 = cc in omega arith
+use Rattle.worked.specs.Laws.Solving.{among, among-in, among-out}
 
 pub cond-both : (a b : Bool) → cond a b false ≡ true → (a ≡ true) × (b ≡ true)
 cond-both true b e = (refl, e)
-cond-both false b e = absurd (never e)
+cond-both false b e = absurd (false≢true e)
 
 pub either : {x z : ℕ} {xs : List ℕ} {P : Type 0} → (z ≡ x → P) → (z ∈ xs → P) → (z ≡ x) ⊎ (z ∈ xs) → P
 either f g (inl q) = f q
@@ -67,7 +64,7 @@ module _ (go : ℕ → List ℕ) where
     next-led x xs h z m = split (mem-append (go x) m)
       where
         split : (z ∈ go x) ⊎ (z ∈ xs) → Path⁺ go o z
-        split (inl n) = path-more (h x (here refl)) n
+        split (inl n) = path-snoc (h x (here refl)) n
         split (inr n) = h z (there n)
 
     also-led : (x : ℕ) (found : List ℕ) → Path⁺ go o x → Each (Path⁺ go o) found → Each (Path⁺ go o) (x ∷ found)

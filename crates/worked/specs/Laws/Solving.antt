@@ -1,16 +1,16 @@
 -- Values and the list of a small graph, found by trying. Assumes nothing.
 use Prim.Native.Nat.{ℕ, zero, suc}
 use native.Mathlib.Decide.{ℕ-discrete}
-use native.Mathlib.Omega.{arith}
 use mathlib.Core.Path.{_≡_, refl, sym, subst}
 use mathlib.Core.Logic.{_⊎_, inl, inr}
-use mathlib.Core.Bool.{Bool, true, false, cond}
+use mathlib.Core.Bool.{Bool, true, false, cond, true≢false}
 use mathlib.Core.List.{List, [], _∷_, _++_}
 use lib.Dec.{eqb}
+use borrow.Author.Tests.{eq-eqb, ne-eqb}
 use Rattle.syntax.specs.Token.{pick}
 use Rattle.graph.specs.Members.{_∈_, here, there}
-use Rattle.graph.specs.Laws.Members.{mem-nil, mem-cons, eqb-yes, eqb-no}
-use Rattle.graph.specs.Graph.{Path⁺, one, more, Entered, none, again, fresh}
+use Rattle.graph.specs.Laws.Members.{mem-nil, mem-cons}
+use Rattle.graph.specs.Graph.{Entered, none, again, fresh}
 use Rattle.values.specs.declared.Value.{Value}
 use Rattle.valuation.specs.Gives.{Give, nil, cons}
 
@@ -63,11 +63,6 @@ module _ (need : ℕ → List ℕ) (rule : ℕ → List Value → Value) where
   unfolding Good
   attempted f xs vs e = subst (Good xs) e (attempt-good f xs)
 
--- a path with one more link
-pub path-more : {go : ℕ → List ℕ} {x y z : ℕ} → Path⁺ go x y → z ∈ go y → Path⁺ go x z
-path-more (one m) k = more m (one k)
-path-more (more m p) k = more m (path-more p k)
-
 -- ---- the list
 
 pub data Entry : Type 0 where
@@ -78,17 +73,14 @@ unfoldable pub among : ℕ → List ℕ → Bool
 among x [] = false
 among x (y ∷ ys) = cond (eqb x y) true (among x ys)
 
-never : true ≡ false → ⊥
-never q = let z : _≡_ {A = ℕ} 0 1 = cc in omega arith
-
 pub among-in : (x : ℕ) (l : List ℕ) → among x l ≡ true → x ∈ l
 unfolding among
-among-in x [] e = absurd (never (sym e))
+among-in x [] e = absurd (true≢false (sym e))
 among-in x (y ∷ ys) e = go (λ k. among-in x ys k) (ℕ-discrete x y)
   where
     go : (among x ys ≡ true → x ∈ ys) → Dec (x ≡ y) → x ∈ (y ∷ ys)
     go h (yes q) = here q
-    go h (no n) = there (h (rw (eqb-no n) at e))
+    go h (no n) = there (h (rw (ne-eqb _ _ n) at e))
 
 pub among-out : (x : ℕ) (l : List ℕ) → among x l ≡ false → ¬ (x ∈ l)
 unfolding among
@@ -100,8 +92,8 @@ among-out x (y ∷ ys) e m = go (λ k. among-out x ys k) (ℕ-discrete x y)
     rest n f (inr k) = f k
 
     go : (among x ys ≡ false → ¬ (x ∈ ys)) → Dec (x ≡ y) → ⊥
-    go h (yes q) = never (rw (eqb-yes q) at e)
-    go h (no n) = rest n (h (rw (eqb-no n) at e)) (mem-cons m)
+    go h (yes q) = true≢false (rw (eq-eqb _ _ q) at e)
+    go h (no n) = rest n (h (rw (ne-eqb _ _ n) at e)) (mem-cons m)
 
 module _ (need : ℕ → List ℕ) where
   unfoldable pub behind : (List ℕ → List ℕ → Entry) → ℕ → List ℕ → Entry → Entry

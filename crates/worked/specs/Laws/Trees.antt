@@ -1,5 +1,5 @@
 -- The graph of two stored ads by their trees, and what a match of them comes to. Assumes nothing.
-use Prim.Native.Nat.{ℕ, zero, suc, _+_, _-_, _≤_, _<_}
+use Prim.Native.Nat.{ℕ, zero, suc, _+_, _≤_, _<_}
 use native.Mathlib.Omega.{arith}
 use native.Mathlib.Decide.{decLt}
 use mathlib.Core.Path.{_≡_, refl, sym, ap, ap₂, _∙_, subst, fun-ext}
@@ -9,6 +9,7 @@ use mathlib.Core.List.{List, [], _∷_, _++_, map}
 use lib.ListN.{length}
 use lib.Seq.{take-all}
 use lib.Dec.{ltb}
+use Rattle.text.specs.Laws.Booleans.{both as halves}
 use Rattle.syntax.specs.Bounds.{maxNodes}
 use Rattle.syntax.specs.Tree.{Ad, nodes}
 use Rattle.ad.specs.Layout.{storedWords, storedBytes}
@@ -33,7 +34,7 @@ use Rattle.slots.specs.declared.Slot.the-variants.{Held}
 use Rattle.slots.specs.Packed.{slotAt}
 use Rattle.worked.specs.Table.{Gift, Row, Given, InSlots, Comes}
 use Rattle.worked.specs.Laws.Solving.{given, attempt, attempted, list, among, among-in, enters, entered-by}
-use Rattle.worked.specs.Laws.Circles.{never, cond-both, either, returns, enough, returns-path, path-returns}
+use Rattle.worked.specs.Laws.Circles.{cond-both, either, returns, enough, returns-path, path-returns}
 
 -- ---- links and roots by the trees: nothing is counted or looked up in words
 
@@ -134,17 +135,13 @@ module _ {a a′ : Ad} (s : StoredAd (storedWords a) (storedBytes a) a) (s′ : 
       let d = cond-both (enough (treeLinks a a′) y) (allTried xs) e in
       either (λ q. subst (λ (u : ℕ). enough (treeLinks a a′) u ≡ true) (sym q) (d .0)) (λ k. tried xs (d .1) x k) (mem-cons m)
 
-  and-both : (p q : Bool) → (p && q) ≡ true → (p ≡ true) × (q ≡ true)
-  and-both true q e = (refl, e)
-  and-both false q e = absurd (never e)
-
   -- the circular references are those found
   pub circles-are : allTried (treeNodes a a′) ≡ true → Flags G circles
   circles-are e x = (there-is, back-is)
     where
       there-is : circles x ≡ true → Circular G x
       there-is q =
-          let d = and-both (treeRefers a a′ x) (returns (treeLinks a a′) x) q in
+          let d = halves (treeRefers a a′ x) (returns (treeLinks a a′) x) q in
           (ap (λ (f : ℕ → Bool). f x) refers-are ∙ d .0, subst (λ (l : ℕ → List ℕ). Path⁺ l x x) (sym links-are) (returns-path (treeLinks a a′) x (d .1)))
 
       back-is : Circular G x → circles x ≡ true

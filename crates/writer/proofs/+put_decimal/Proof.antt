@@ -1,4 +1,4 @@
-use Prim.Native.Nat.{ℕ, _+_, _-_, _<_}
+use Prim.Native.Nat.{ℕ, _<_}
 use Rattle.writer.proofs.Laws.{decimal-puts-one, decimal-puts-more, near-decimal, near-decimal-last, near-one}
 use borrow.Author.Needs.{needs}
 use native.Mathlib.Omega.{arith}

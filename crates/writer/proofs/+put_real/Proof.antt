@@ -1,4 +1,4 @@
-use Prim.Native.Nat.{ℕ, _+_, _-_, _<_}
+use Prim.Native.Nat.{ℕ, _<_}
 use Rattle.writer.proofs.Laws.{real-puts-none, real-puts-more, near-whole, near-real}
 use borrow.Author.Needs.{needs}
 use native.Mathlib.Omega.{arith}

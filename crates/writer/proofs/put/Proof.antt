@@ -7,9 +7,6 @@ use borrow.Author.Needs.{needs}
 use native.Mathlib.Omega.{arith}
 use Rattle.writer.proofs.put.Statement.{statement}
 use Rattle.writer.proofs.put.Tie as tie
-use Rattle.writer.proofs.put.Reads as reads
-use Rattle.writer.proofs.put.Lts as lts
-use Rattle.writer.proofs.put_byte.Reads as put-byte-reads
 
 abbrev Inv-loop : tie.InvT-loop
 Inv-loop bytes out₀ at i₀ m₀ out i m =

@@ -1,13 +1,8 @@
-use Prim.Native.Nat.{_-_}
 use Rattle.writer.proofs.Laws.{puts-join, puts-byte}
 use native.Mathlib.Omega.{arith}
 use borrow.Author.Needs.{needs}
 use Rattle.writer.proofs.put_binary.Statement.{statement}
 use Rattle.writer.proofs.put_binary.Tie as tie
-use Rattle.writer.proofs.put_binary.Reads as reads
-use Rattle.writer.proofs.put_binary.Lts as lts
-use Rattle.writer.proofs.put_byte.Reads as put-byte-reads
-use Rattle.writer.proofs.put_operator.Reads as put-operator-reads
 
 put-operator-requires : tie.Need-put-operator-requires
 put-operator-requires c κs = omega (arith, c .before .before .before .before .before .before .pre)

@@ -1,10 +1,7 @@
-use Prim.Native.Nat.{_-_}
 use Rattle.writer.proofs.Laws.{outside}
 use borrow.Author.Needs.{needs}
 use Rattle.writer.proofs.put_byte.Statement.{statement}
 use Rattle.writer.proofs.put_byte.Tie as tie
-use Rattle.writer.proofs.put_byte.Reads as reads
-use Rattle.writer.proofs.put_byte.Lts as lts
 
 returns-2 : tie.Need-returns-2
 returns-2 c = outside (c .before .args .out .now) (c .before .args .at) (c .before .args .b) (c .if1 .left)

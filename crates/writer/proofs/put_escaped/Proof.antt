@@ -1,15 +1,10 @@
 use mathlib.Core.Path.{sym, ap}
-use Prim.Native.Nat.{_-_}
 use lib.ListN.{length}
 use Rattle.writer.proofs.Laws.{puts-as, puts-byte, escaped-1, escaped-2, escaped-3, escaped-4, escaped-5}
 use native.Mathlib.Omega.{arith}
 use borrow.Author.Needs.{needs}
 use Rattle.writer.proofs.put_escaped.Statement.{statement}
 use Rattle.writer.proofs.put_escaped.Tie as tie
-use Rattle.writer.proofs.put_escaped.Reads as reads
-use Rattle.writer.proofs.put_escaped.Lts as lts
-use Rattle.writer.proofs.put.Reads as put-reads
-use Rattle.writer.proofs.put_byte.Reads as put-byte-reads
 
 put-requires : tie.Need-put-requires
 put-requires c κs =

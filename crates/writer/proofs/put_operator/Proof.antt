@@ -1,13 +1,9 @@
-use Prim.Native.Nat.{_-_}
 use Rattle.syntax.specs.Print.{binaryText}
 use Rattle.text.specs.Bytes.{bytes}
 use native.Mathlib.Omega.{arith}
 use borrow.Author.Needs.{needs}
 use Rattle.writer.proofs.put_operator.Statement.{statement}
 use Rattle.writer.proofs.put_operator.Tie as tie
-use Rattle.writer.proofs.put_operator.Reads as reads
-use Rattle.writer.proofs.put_operator.Lts as lts
-use Rattle.writer.proofs.put.Reads as put-reads
 
 put-requires : tie.Need-put-requires
 unfolding binaryText bytes

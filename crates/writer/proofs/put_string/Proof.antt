@@ -9,10 +9,6 @@ use borrow.Author.Needs.{needs}
 use native.Mathlib.Omega.{arith}
 use Rattle.writer.proofs.put_string.Statement.{statement}
 use Rattle.writer.proofs.put_string.Tie as tie
-use Rattle.writer.proofs.put_string.Reads as reads
-use Rattle.writer.proofs.put_string.Lts as lts
-use Rattle.writer.proofs.put_byte.Reads as put-byte-reads
-use Rattle.writer.proofs.put_escaped.Reads as put-escaped-reads
 
 abbrev Inv-loop : tie.InvT-loop
 Inv-loop s out₀ at i₀ m₀ out i m =

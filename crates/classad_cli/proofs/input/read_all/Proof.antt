@@ -6,9 +6,6 @@ use borrow.Author.Needs.{needs}
 use Rattle.classad_cli.proofs.Reading.{moves-on}
 use Rattle.classad_cli.proofs.input.read_all.Statement.{statement}
 use Rattle.classad_cli.proofs.input.read_all.Tie as tie
-use Rattle.classad_cli.proofs.input.read_all.Reads as reads
-use Rattle.classad_cli.proofs.input.read_all.Lts as lts
-use Rattle.classad_cli.proofs.input.read_some.Reads as read-some-reads
 
 abbrev Inv-loop : tie.InvT-loop
 Inv-loop fd text₀ n₀ text n = (n ≤ length text₀) × (length text ≡ length text₀)

@@ -1,9 +1,5 @@
-use mathlib.Core.Path.{refl, _∙_}
 use Prim.Native.Nat.{_-_}
 use native.Mathlib.Omega.{arith}
-use lib.ListN.{length}
-use Rattle.links.specs.Laws.Counting.{definitions-few}
-use denote.Ref.{now}
 use Rattle.links.proofs.Reading.{Filling, filling-first, filling-next, filling-end, name-small}
 use borrow.Author.Needs.{needs}
 use Rattle.links.proofs.lookup.fill.Statement.{statement}

@@ -2,8 +2,8 @@ use denote.Ref.{now}
 use mathlib.Core.Path.{refl}
 use lib.ListN.{length}
 use borrow.Author.Tests.{lt-ltb, le-ltb}
-use Rattle.matching.proofs.too_small.Statement.{statement}
-use Rattle.matching.proofs.too_small.Tie as tie
+use Rattle.admission.proofs.too_small.Statement.{statement}
+use Rattle.admission.proofs.too_small.Tie as tie
 
 returns : tie.Need-returns
 returns c = rw (lt-ltb _ 4864 (c .if1 .taken)) refl
@@ -40,7 +40,7 @@ returns-5 c =
       le-ltb (length (now (args .b))) 16384 (b3 .if2 .left),
       le-ltb (length (now (args .w))) 4864 (c .before .before .if3 .left),
       le-ltb (length (now (args .c))) 16384 (c .before .if4 .left),
-      lt-ltb _ 4096 (c .if5 .taken),
+      lt-ltb _ _ (c .if5 .taken),
     ) refl
 
 returns-6 : tie.Need-returns-6
@@ -52,7 +52,7 @@ returns-6 c =
       le-ltb (length (now (args .b))) 16384 (b3 .if2 .left),
       le-ltb (length (now (args .w))) 4864 (c .before .before .if3 .left),
       le-ltb (length (now (args .c))) 16384 (c .before .if4 .left),
-      le-ltb _ 4096 (c .if5 .left),
+      le-ltb _ _ (c .if5 .left),
     ) refl
 
 pub too-small-spec : {M : Type 1} → statement M

@@ -1,16 +1,17 @@
 use borrow.Author.Needs.{needs}
 use mathlib.Core.Path.{sym, _∙_}
 use Prim.Native.Nat.{_-_}
+use Rattle.syntax.specs.Bounds.{maxDefinitions}
 use Rattle.ad.specs.Stored.{lengthAt}
-use Rattle.links.proofs.Reading.{Counted, counted-first, counted-next, counted-stop, counted-end, definitions-are}
-use Rattle.links.proofs.stored.count_definitions.Statement.{statement}
-use Rattle.links.proofs.stored.count_definitions.Tie as tie
+use Rattle.ad.proofs.Counting.{Counted, counted-first, counted-next, counted-stop, counted-end, definitions-are}
+use Rattle.ad.proofs.count_definitions.Statement.{statement}
+use Rattle.ad.proofs.count_definitions.Tie as tie
 
 abbrev Inv-loop : tie.InvT-loop
-Inv-loop words j₀ j = Counted (lengthAt words) 256 j
+Inv-loop words j₀ j = Counted (lengthAt words) maxDefinitions j
 
 abbrev μ-loop : tie.MeasureT-loop
-μ-loop words j₀ j = 256 - j
+μ-loop words j₀ j = maxDefinitions - j
 
 loop-holds : tie.Need-loop-holds Inv-loop μ-loop
 loop-holds c = counted-first _ _

@@ -12,8 +12,8 @@ mod texts;
 
 use std::process::ExitCode;
 
-const USAGE: &str = "usage: bench/run [ROUNDS]
-       bench/run plot [ROUNDS]
+const USAGE: &str = "usage: benchmarks/run [ROUNDS]
+       benchmarks/run plot [ROUNDS]
 The first prints the tables of docs/PERFORMANCE.md, the second draws docs/growth-*.svg.
 ";
 

@@ -1,10 +1,10 @@
 use denote.Ref.{now}
 use mathlib.Core.Bool.{true≢false}
 use mathlib.Core.Path.{sym}
-use Rattle.matching.specs.Laws.Wells.{well-formed, malformed}
+use Rattle.admission.specs.Laws.Wells.{well-formed, malformed}
 use borrow.Author.Needs.{needs}
-use Rattle.matching.proofs.well.Statement.{statement}
-use Rattle.matching.proofs.well.Tie as tie
+use Rattle.admission.proofs.well.Statement.{statement}
+use Rattle.admission.proofs.well.Tie as tie
 
 returns : tie.Need-returns
 returns c =

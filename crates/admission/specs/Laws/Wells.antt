@@ -11,7 +11,7 @@ use Rattle.well_formed.specs.Laws.Bounds.{bounded}
 use Rattle.well_formed.specs.Laws.Named.{bounded-named}
 use Rattle.well_formed.specs.declared.Checked.{Checked}
 use Rattle.well_formed.specs.declared.Checked.the-variants.{WellFormed, Malformed}
-use Rattle.matching.specs.Matching.{Well}
+use Rattle.admission.specs.Admission.{Well}
 
 pub formed-of : (w b : List ℕ) → Well w b → Formed (take adWords w)
 formed-of w b (a, h) =

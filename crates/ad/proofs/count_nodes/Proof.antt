@@ -1,16 +1,17 @@
 use borrow.Author.Needs.{needs}
 use mathlib.Core.Path.{sym, _∙_}
 use Prim.Native.Nat.{_-_}
+use Rattle.syntax.specs.Bounds.{maxNodes}
 use Rattle.ad.specs.Stored.{kindAt}
-use Rattle.links.proofs.Reading.{Counted, counted-first, counted-next, counted-stop, counted-end, nodes-are}
-use Rattle.links.proofs.stored.count_nodes.Statement.{statement}
-use Rattle.links.proofs.stored.count_nodes.Tie as tie
+use Rattle.ad.proofs.Counting.{Counted, counted-first, counted-next, counted-stop, counted-end, nodes-are}
+use Rattle.ad.proofs.count_nodes.Statement.{statement}
+use Rattle.ad.proofs.count_nodes.Tie as tie
 
 abbrev Inv-loop : tie.InvT-loop
-Inv-loop words i₀ i = Counted (kindAt words) 1024 i
+Inv-loop words i₀ i = Counted (kindAt words) maxNodes i
 
 abbrev μ-loop : tie.MeasureT-loop
-μ-loop words i₀ i = 1024 - i
+μ-loop words i₀ i = maxNodes - i
 
 loop-holds : tie.Need-loop-holds Inv-loop μ-loop
 loop-holds c = counted-first _ _

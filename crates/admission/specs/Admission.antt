@@ -1,0 +1,23 @@
+-- Which two stored ads a call admits. v and b are the words and bytes of the first ad, w and c those of the second. Assumes nothing.
+use Prim.Native.Nat.{ℕ}
+use mathlib.Core.Bool.{Bool, _||_}
+use mathlib.Core.List.{List}
+use lib.ListN.{length, take}
+use lib.Dec.{ltb}
+use Rattle.syntax.specs.Tree.{Ad}
+use Rattle.ad.specs.Layout.{adWords, adBytesRoom}
+use Rattle.well_formed.specs.WellFormed.{Holds}
+
+-- 'a list of 2,048 entries'
+abbrev pub listWords : ℕ
+listWords = 2048
+
+-- 'lent room smaller than above': of two ads, of so many numbers besides, of which some are lent, and of a list
+abbrev pub smallPair : (v b w c : List ℕ) (lent room entries : ℕ) → Bool
+smallPair v b w c lent room entries =
+    ltb (length v) adWords || (ltb (length b) adBytesRoom || (ltb (length w) adWords || (ltb (length c) adBytesRoom || (ltb lent room || ltb entries listWords))))
+
+-- the words w and the bytes b hold a well-formed ad, of whose room only the front counts: 'stored numbers are no well-formed tree within
+-- the bounds above' does not hold of them
+abbrev pub Well : List ℕ → List ℕ → Type 0
+Well w b = (a : Ad) × Holds (take adWords w) (take adBytesRoom b) a
