@@ -10,7 +10,8 @@ use lib.ListN.{length, getD, set, take, drop, replicate, drop-of-length-le}
 use lib.Seq.{sets, slice, take-all, take-nil}
 use Rattle.text.specs.Strings.{sameName}
 use Rattle.text.specs.Parts.{slice-one, slice-back}
-use Rattle.ad.specs.Stored.{offsetAt, lengthAt, bytesAt, definedIn}
+use Rattle.ad.specs.Stored.{offsetAt, lengthAt, bytesAt}
+use Rattle.ad.specs.Inner.Names.{definedIn}
 
 pub cut-none : (n k : ℕ) → _≡_ {A = List ℕ} (take n []) (take k [])
 cut-none n k = take-nil n ∙ sym (take-nil k)

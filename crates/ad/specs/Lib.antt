@@ -1,3 +1,4 @@
 pub mod Layout
 pub mod Stored
+pub mod Inner
 pub mod Laws

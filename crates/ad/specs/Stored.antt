@@ -1,6 +1,6 @@
 -- A stored ad as it is read, total over any memory: its nodes, operands, definitions and names (docs/LAYOUT.md). w are the words
 -- and b the bytes of an ad. Assumes nothing.
-use mathlib.Core.Bool.{Bool, false, cond, _||_}
+use mathlib.Core.Bool.{Bool, cond, _||_}
 use mathlib.Core.List.{List, [], _∷_}
 use Prim.Native.Nat.{ℕ, zero, suc, _+_, _-_, _*_}
 use lib.ListN.{getD, take, drop}
@@ -86,11 +86,6 @@ operands w i = take (arity (kindAt w i)) (operandAt w i 0 ∷ operandAt w i 1 �
 -- the name of the reference i, as written: 'Names .. are kept as written'
 abbrev pub nameAt : List ℕ → List ℕ → ℕ → List ℕ
 nameAt w b i = bytesAt b (operandAt w i 0) (operandAt w i 1)
-
--- whether one of k stored definitions, from definition j on, has a name
-unfoldable pub definedIn : List ℕ → List ℕ → List ℕ → ℕ → ℕ → Bool
-definedIn w b name j zero = false
-definedIn w b name j (suc k) = sameName (bytesAt b (offsetAt w j) (lengthAt w j)) name || definedIn w b name (j + 1) k
 
 -- the root of the first of k definitions, from definition j on, whose name matches: 'Names match without regard to ASCII case'
 unfoldable pub findFrom : List ℕ → List ℕ → List ℕ → ℕ → ℕ → List ℕ

@@ -9,7 +9,8 @@ ghost use lib.Seq.{sets, slice};
 ghost use Rattle.syntax.specs.Bounds.{maxDefinitions, maxNodes};
 ghost use Rattle.text.specs.Strings.{sameName};
 ghost use Rattle.ad.specs.Layout.{node, nodeWords, adWords};
-ghost use Rattle.ad.specs.Stored.{kindAt, operandAt, offsetAt, lengthAt, rootAt, bytesAt, nodeCount, definitionCount, nameAt, arity, isReference, unaryOf, binaryOf, definedIn};
+ghost use Rattle.ad.specs.Stored.{kindAt, operandAt, offsetAt, lengthAt, rootAt, bytesAt, nodeCount, definitionCount, nameAt, arity, isReference, unaryOf, binaryOf};
+ghost use Rattle.ad.specs.Inner.Names.{definedIn};
 
 // The room of an ad: 1,024 nodes of four words, behind them 256 definitions of three, and 16,384 bytes.
 pub const NODE_WORDS: usize = 4096;

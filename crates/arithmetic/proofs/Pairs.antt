@@ -4,7 +4,8 @@ use Rattle.values.specs.declared.Value.{Value}
 use Rattle.operands.specs.declared.Operands.{Operands}
 use Rattle.operands.specs.Inner.Operands.{operandsOf, numberOnly}
 use Rattle.arithmetic.specs.declared.Arithmetic.{Arithmetic}
-use Rattle.arithmetic.specs.Arithmetic.{arithmeticResult, arithmeticValue}
+use Rattle.arithmetic.specs.Arithmetic.{arithmeticValue}
+use Rattle.arithmetic.specs.Inner.Operands.{arithmeticResult}
 use Rattle.arithmetic.specs.Laws.Strict.{arithmetic-by-pair}
 
 pub arithmetic-of : (op : Arithmetic) (a b : Value) {x y : Value} {p q : Operands} → x ≡ numberOnly a → y ≡ numberOnly b → p ≡ operandsOf x y → p ≡ q

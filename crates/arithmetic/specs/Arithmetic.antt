@@ -7,9 +7,7 @@ use lib.Ieee as Ieee
 use lib.Ieee.{Float, binary64}
 use Rattle.integers.specs.Integers.{width, wrappedSum, wrappedDifference, wrappedProduct, wrappedNegation, truncatedQuotient, signedRemainder}
 use Rattle.values.specs.declared.Value.{Value}
-use Rattle.values.specs.declared.Value.the-variants.{Undefined, Error, Integer, Real}
-use Rattle.operands.specs.declared.Operands.{Operands}
-use Rattle.operands.specs.declared.Operands.the-variants.{Refused, Missing, Integers, Reals, Strings}
+use Rattle.values.specs.declared.Value.the-variants.{Error, Integer, Real}
 use Rattle.arithmetic.specs.declared.Arithmetic.{Arithmetic}
 use Rattle.arithmetic.specs.declared.Arithmetic.the-variants.{Sum, Difference, Product, Quotient, Remainder}
 use Rattle.operands.specs.Strict.{isInteger, isNumber, codeOf, toReal, strict}
@@ -50,11 +48,3 @@ minusValue a = strict isNumber (a ∷ []) true (negated a)
 -- 'Strict operators are .. unary plus and minus': plus, which gives the number back
 abbrev pub plusValue : Value → Value
 plusValue a = strict isNumber (a ∷ []) true a
-
--- what the code makes of the pair of operands
-abbrev pub arithmeticResult : Arithmetic → Operands → Value
-arithmeticResult op Refused = Error
-arithmeticResult op Missing = Undefined
-arithmeticResult op (Integers x y) = integersResult op x y
-arithmeticResult op (Reals x y) = Real (realsResult op x y)
-arithmeticResult op (Strings s o n t p m) = Error

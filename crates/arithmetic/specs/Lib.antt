@@ -1,3 +1,4 @@
 pub mod Arithmetic
 pub mod Exact
+pub mod Inner
 pub mod Laws

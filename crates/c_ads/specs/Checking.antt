@@ -8,14 +8,6 @@ use Rattle.syntax.specs.Tree.{Ad, nodes}
 use Rattle.syntax.specs.Print.{printedAd}
 use Rattle.ad.specs.Layout.{adWords, adBytesRoom, smallAd}
 use Rattle.well_formed.specs.WellFormed.{Holds}
-use Rattle.well_formed.specs.declared.Checked.{Checked}
-use Rattle.well_formed.specs.declared.Checked.the-variants.{WellFormed, Malformed}
-
--- what the check answers as numbers, 10, or 0 and what it counted: 'a definition that gives this paper's number and values for
--- each case of the enum'
-abbrev pub checkNumbers : Checked → List ℕ
-checkNumbers (WellFormed d n k) = 0 ∷ d ∷ n ∷ k ∷ []
-checkNumbers Malformed = 10 ∷ 0 ∷ 0 ∷ 0 ∷ []
 
 -- THE CONTRACT OF `classad_check`: n are the four numbers after it. 1 where there is no room, 10 where 'stored numbers are no well-formed
 -- tree within the bounds above'; else 0, the definitions, the nodes and the length of the print

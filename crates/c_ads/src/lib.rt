@@ -1,7 +1,8 @@
 // What the C functions of one ad do: each calls the function of its name and leaves its answer in numbers (docs/LAYOUT.md).
 ghost use mathlib.Core.Path.{_≡_};
 ghost use Rattle.c_ads.specs.Reading.{numbersOf, Reported};
-ghost use Rattle.c_ads.specs.Checking.{checkNumbers, CheckReported};
+ghost use Rattle.c_ads.specs.Checking.{CheckReported};
+ghost use Rattle.c_ads.specs.Inner.Numbers.{checkNumbers};
 ghost use Rattle.c_ads.specs.Printing.{printNumbers, PrintReported};
 ghost use Rattle.c_ads.specs.Inspecting.{positionNumbers, holderNumbers};
 ghost use Rattle.inspection.specs.Inspection.{nodeText, holder};

@@ -6,7 +6,8 @@ use Rattle.values.specs.declared.Value.{Value}
 use Rattle.operands.specs.declared.Operands.{Operands}
 use Rattle.operands.specs.Inner.Operands.{operandsOf}
 use Rattle.comparison.specs.declared.Comparison.{Comparison}
-use Rattle.comparison.specs.Comparison.{comparisonResult, comparisonValue}
+use Rattle.comparison.specs.Comparison.{comparisonValue}
+use Rattle.comparison.specs.Inner.Operands.{comparisonResult}
 use Rattle.comparison.specs.Laws.Strict.{comparison-by-pair}
 
 pub comparison-of : (first second : List ℕ) (op : Comparison) (a b : Value) {p q : Operands} → p ≡ operandsOf a b → p ≡ q

@@ -10,10 +10,8 @@ use Rattle.text.specs.Strings.{stringOrder}
 use Rattle.text.specs.declared.Order.{Order}
 use Rattle.text.specs.declared.Order.the-variants.{Less, Same, Greater}
 use Rattle.values.specs.declared.Value.{Value}
-use Rattle.values.specs.declared.Value.the-variants.{Undefined, Error, Boolean}
+use Rattle.values.specs.declared.Value.the-variants.{Boolean}
 use Rattle.values.specs.Values.{kinds, bytesAt}
-use Rattle.operands.specs.declared.Operands.{Operands}
-use Rattle.operands.specs.declared.Operands.the-variants.{Refused, Missing, Integers, Reals, Strings}
 use Rattle.comparison.specs.declared.Comparison.{Comparison}
 use Rattle.comparison.specs.declared.Comparison.the-variants.{Equal, NotEqual, Below, AtMost, Above, AtLeast}
 use Rattle.operands.specs.Strict.{isInteger, isNumber, isString, codeOf, toReal, strict}
@@ -66,12 +64,3 @@ abbrev pub comparisonValue : List ℕ → List ℕ → Comparison → Value → 
 comparisonValue first second op a b =
     strict (λ v. isNumber v || isString v) (a ∷ b ∷ []) (isNumber a && isNumber b || isString a && isString b)
     (Boolean (compares first second op a b))
-
--- what the code makes of the pair of operands
-abbrev pub comparisonResult : List ℕ → List ℕ → Comparison → Operands → Value
-comparisonResult first second op Refused = Error
-comparisonResult first second op Missing = Undefined
-comparisonResult first second op (Integers x y) = Boolean (integersCompare op x y)
-comparisonResult first second op (Reals x y) = Boolean (realsCompare op x y)
-comparisonResult first second op (Strings s o n t p m) =
-    Boolean (orderHolds op (stringOrder (bytesAt first second s o n) (bytesAt first second t p m)))

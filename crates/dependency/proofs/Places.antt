@@ -7,7 +7,7 @@ use lib.Dec.{ltb}
 use borrow.Author.Tests.{le-ltb, lt-ltb}
 use Rattle.graph.specs.declared.Place.{Place}
 use Rattle.graph.specs.declared.Place.the-variants.{Resolving, Between}
-use Rattle.dependency.specs.Traversal.{PlaceFits}
+use Rattle.dependency.specs.Inner.Asked.{PlaceFits}
 
 pub place-some : {n : ℕ} → 0 < n → Resolving 0 ≡ cond (ltb 0 n) (Resolving 0) (Between 0)
 place-some h = rw (lt-ltb _ _ h) refl

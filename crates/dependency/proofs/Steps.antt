@@ -9,7 +9,8 @@ use lib.Dec.{ltb}
 use Rattle.graph.specs.Graph.{Node}
 use Rattle.graph.specs.Transition.{searches, start, led, needed, marked}
 use Rattle.ad.specs.Stored.{nodeCount}
-use Rattle.links.specs.Pair.{pairGraph, Measured, Stands}
+use Rattle.links.specs.Pair.{pairGraph}
+use Rattle.links.specs.Inner.Asked.{Measured, Stands}
 use Rattle.links.specs.Laws.Soundness.{pair-sound}
 use Rattle.graph.specs.Members.{numbers, raised}
 use Rattle.marks.specs.Inner.Memory.{markAt, marksRoom, AtNode, AtSeek, AtLoopLink, AtLoopLast, AtClose, AtStart, AtLink, AtLast, Grows}

@@ -18,11 +18,13 @@ use Rattle.graph.specs.Laws.Numbers.{Small, small-transitions, small-first}
 use Rattle.graph.specs.Laws.Transitions.{state-eq}
 use Rattle.graph.specs.declared.Place.{Place}
 use Rattle.graph.specs.declared.Place.the-variants.{Resolving, Starting, Searching, Closing, Between, Inside}
-use Rattle.links.specs.Pair.{pairGraph, Measured}
+use Rattle.links.specs.Pair.{pairGraph}
+use Rattle.links.specs.Inner.Asked.{Measured}
 use Rattle.links.specs.Laws.Soundness.{pair-sound}
 use Rattle.links.specs.Laws.Numbering.{pair-size}
 use Rattle.marks.specs.Inner.Memory.{view, marksRoom, markWords, Clear, Roomy, Grows}
-use Rattle.dependency.specs.Traversal.{endedAt, PlaceFits, FlaggedFrom, Ready, Traversed}
+use Rattle.dependency.specs.Traversal.{Traversed}
+use Rattle.dependency.specs.Inner.Asked.{endedAt, PlaceFits, FlaggedFrom, Ready}
 use Rattle.dependency.specs.Laws.Use.{clear-zeros}
 use Rattle.dependency.specs.Laws.Next.{slots-fit, place-fits}
 use Rattle.dependency.proofs.Steps.{nodes-few, size-is}

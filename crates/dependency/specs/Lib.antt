@@ -1,2 +1,3 @@
 pub mod Traversal
+pub mod Inner
 pub mod Laws

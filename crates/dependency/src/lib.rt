@@ -11,9 +11,11 @@ ghost use Prim.Native.Nat.{_+_, _<_};
 ghost use lib.ListN.{length, replicate};
 ghost use lib.Dec.{ltb};
 ghost use Rattle.graph.specs.declared.Place.the-variants.{Resolving, Between};
-ghost use Rattle.links.specs.Pair.{pairGraph, Measured, RootMarks, Fingerprints};
+ghost use Rattle.links.specs.Pair.{pairGraph};
+ghost use Rattle.links.specs.Inner.Asked.{Measured, RootMarks, Fingerprints};
 ghost use Rattle.marks.specs.Inner.Memory.{markWords};
-ghost use Rattle.dependency.specs.Traversal.{endedAt, Ready, Traversed};
+ghost use Rattle.dependency.specs.Traversal.{Traversed};
+ghost use Rattle.dependency.specs.Inner.Asked.{endedAt, Ready};
 
 // How many transitions the traversal took, how long the list is, and where it began.
 pub struct Traversal {

@@ -9,9 +9,10 @@ ghost use lib.ListN.{length, getD};
 ghost use Rattle.graph.specs.Transition.{transition};
 ghost use Rattle.graph.specs.declared.Place.the-variants.{Resolving, Starting, Searching, Closing, Between, Inside};
 ghost use Rattle.ad.specs.Stored.{nodeCount};
-ghost use Rattle.links.specs.Pair.{pairGraph, Formed, Measured, Fingerprints};
+ghost use Rattle.links.specs.Pair.{pairGraph};
+ghost use Rattle.links.specs.Inner.Asked.{Formed, Measured, Fingerprints};
 ghost use Rattle.marks.specs.Inner.Memory.{view, markWords, Flagged, Roomy, Grows};
-ghost use Rattle.dependency.specs.Traversal.{PlaceFits, FlaggedFrom};
+ghost use Rattle.dependency.specs.Inner.Asked.{PlaceFits, FlaggedFrom};
 
 // The transition that resolves the node of index i.
 fn resolving(

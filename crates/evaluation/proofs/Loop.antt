@@ -5,9 +5,11 @@ use mathlib.Core.Path.{_≡_, sym, ap, _∙_, subst}
 use mathlib.Core.List.{List}
 use lib.ListN.{length, getD, take, length-map, List·getD-map}
 use lib.Seq.{length-take-le, getD-take}
-use Rattle.links.specs.Pair.{pairGraph, Stands}
+use Rattle.links.specs.Pair.{pairGraph}
+use Rattle.links.specs.Inner.Asked.{Stands}
 use Rattle.links.specs.Laws.Numbering.{stands-small}
-use Rattle.evaluation.specs.Evaluation.{ruleAt, needed, entries, Stepped, RunTo, AtStep, AtRun}
+use Rattle.evaluation.specs.Evaluation.{ruleAt, needed, entries, Stepped, RunTo}
+use Rattle.evaluation.specs.Inner.Asked.{AtStep, AtRun}
 use Rattle.evaluation.specs.Laws.Words.{Run, run-first, run-next, run-spent, run-over, run-long}
 
 pub entries-long : (len : ℕ) (list : List ℕ) → len ≤ length list → length (entries len list) ≡ len

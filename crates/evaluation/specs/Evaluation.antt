@@ -1,15 +1,15 @@
 -- Step and run over two stored ads, their marks, the list and a table in lent memory. v and b are the words and bytes of the first ad,
 -- w and c those of the second. Assumes nothing.
-use Prim.Native.Nat.{ℕ, _-_, _*_, _+_, _≤_, _<_, min}
+use Prim.Native.Nat.{ℕ, _-_, _*_, _+_, _<_, min}
 use mathlib.Core.Path.{_≡_}
 use mathlib.Core.Bool.{Bool, true, false, cond}
 use mathlib.Core.List.{List, [], _∷_, map}
-use lib.ListN.{length, getD, take, drop}
+use lib.ListN.{length, take, drop}
 use Rattle.ad.specs.Stored.{kindAt, operandAt}
 use Rattle.graph.specs.Members.{numbers, raised}
 use Rattle.graph.specs.Graph.{Graph}
 use Rattle.graph.specs.Transition.{led}
-use Rattle.links.specs.Pair.{both, Formed, Stands}
+use Rattle.links.specs.Pair.{both}
 use Rattle.values.specs.declared.Value.{Value}
 use Rattle.values.specs.declared.Value.the-variants.{Undefined}
 use Rattle.slots.specs.declared.Slot.{Slot}
@@ -70,22 +70,3 @@ module _ (need : ℕ → List ℕ) (rule : ℕ → List Value → Value) where
     pub words : after ≡ stepsWords (take budget (drop k l)) before
     -- all slots: 'it makes one step for each further entry in the list's order'
     pub slots : slotAt after ≡ runFrom Held seen need rule l k budget (slotAt before)
-
--- what a step is given: two well-formed ads, a node of theirs, and its marks, whatever they hold
-pub record AtStep (v w target flag : List ℕ) (x : ℕ) : Type 0 where
-  pub first-formed : Formed v
-  pub second-formed : Formed w
-  pub node : Stands v w x
-  pub target-room : x < length target
-  pub flag-room : x < length flag
-
--- what a run is given: two well-formed ads, marks and a table with a slot for each node ('1,024 a side'), whatever they hold, and a
--- list of nodes
-pub record AtRun (v w target flag list table : List ℕ) (len : ℕ) : Type 0 where
-  pub first-formed : Formed v
-  pub second-formed : Formed w
-  pub target-room : 2048 ≤ length target
-  pub flag-room : 2048 ≤ length flag
-  pub list-room : len ≤ length list
-  pub table-room : 4096 ≤ length table
-  pub listed : (i : ℕ) → i < len → (1 ≤ getD list i 0) × Stands v w (getD list i 0 - 1)

@@ -1,2 +1,3 @@
 pub mod Evaluation
+pub mod Inner
 pub mod Laws

@@ -15,7 +15,8 @@ use Rattle.graph.specs.Transition.{marked}
 use Rattle.ad.specs.Stored.{lengthAt, offsetAt, rootAt, bytesAt, definitionCount, findFrom, find}
 use Rattle.names.specs.Inner.Fingerprint.{fingerprintOf}
 use Rattle.names.specs.Laws.Matching.{other-fingerprint}
-use Rattle.links.specs.Pair.{numbered, printAt, Formed, Fingerprints}
+use Rattle.links.specs.Pair.{numbered}
+use Rattle.links.specs.Inner.Asked.{printAt, Formed, Fingerprints}
 use Rattle.links.specs.Inner.Filling.{Filled}
 use Rattle.links.specs.Laws.Counting.{nodes-few, definitions-few}
 

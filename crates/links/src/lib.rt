@@ -12,7 +12,8 @@ ghost use Rattle.syntax.specs.Bounds.{maxNodes};
 ghost use Rattle.ad.specs.Layout.{adWords};
 ghost use Rattle.graph.specs.Transition.{led, needed, marked};
 ghost use Rattle.ad.specs.Stored.{kindAt, operandAt, nodeCount, isReference};
-ghost use Rattle.links.specs.Pair.{linked, linksFrom, both, pairGraph, unmarked, Formed, Measured, Stands, RootMarks, Printed, Fingerprints};
+ghost use Rattle.links.specs.Pair.{linked, linksFrom, both, pairGraph};
+ghost use Rattle.links.specs.Inner.Asked.{unmarked, Formed, Measured, Stands, RootMarks, Printed, Fingerprints};
 ghost use Rattle.graph.specs.Members.{numbers, raised};
 
 const SLOTS: usize = 2048;

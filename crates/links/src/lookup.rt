@@ -9,7 +9,8 @@ ghost use Rattle.text.specs.Strings.{sameName};
 ghost use Rattle.names.specs.Inner.Fingerprint.{fingerprintOf};
 ghost use Rattle.graph.specs.Transition.{marked};
 ghost use Rattle.ad.specs.Stored.{offsetAt, lengthAt, definitionCount, bytesAt, find};
-ghost use Rattle.links.specs.Pair.{numbered, printAt, Formed, Printed};
+ghost use Rattle.links.specs.Pair.{numbered};
+ghost use Rattle.links.specs.Inner.Asked.{printAt, Formed, Printed};
 ghost use Rattle.links.specs.Inner.Filling.{Filled};
 
 // Where the fingerprint of definition j of an ad, `second` or the first, is kept.

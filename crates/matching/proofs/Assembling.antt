@@ -10,7 +10,8 @@ use Rattle.graph.specs.Members.{_∈_, Each, raised}
 use Rattle.graph.specs.Laws.Members.{mem-nil, at-mem}
 use Rattle.graph.specs.Graph.{Sound, Node, needs, Entered}
 use Rattle.graph.specs.Laws.Traversal.{needs-links, needs-acyclic}
-use Rattle.links.specs.Pair.{pairGraph, rootsOf, requirements, rank, Formed, Stands, RootMarks}
+use Rattle.links.specs.Pair.{pairGraph, rootsOf, requirements, rank}
+use Rattle.links.specs.Inner.Asked.{Formed, Stands, RootMarks}
 use Rattle.links.specs.Laws.Soundness.{pair-sound}
 use Rattle.dependency.specs.Traversal.{Traversed}
 use Rattle.dependency.specs.Laws.Use.{clear-zeros}
@@ -23,8 +24,10 @@ use Rattle.valuation.specs.Run.{Ran}
 use Rattle.valuation.specs.Laws.Values.{entered-in}
 use Rattle.valuation.specs.Laws.Transfer.{entered-part}
 use Rattle.valuation.specs.Laws.Runs.{run-ran}
-use Rattle.evaluation.specs.Evaluation.{ruleAt, seen, needed, entries, RunTo, AtRun}
-use Rattle.matching.specs.Matching.{isTrue, rankOf, worthAt, Worth, Match}
+use Rattle.evaluation.specs.Evaluation.{ruleAt, seen, needed, entries, RunTo}
+use Rattle.evaluation.specs.Inner.Asked.{AtRun}
+use Rattle.matching.specs.Matching.{isTrue, rankOf, Worth, Match}
+use Rattle.matching.specs.Inner.Worth.{worthAt}
 use Rattle.matching.specs.Laws.Traversed.{entered-of, counted-of}
 use Rattle.matching.specs.Laws.Running.{run-from}
 use Rattle.matching.specs.Laws.Concluding.{worth-of, worth-marked, roots-first, roots-second, ranks-first, ranks-second}

@@ -1,6 +1,6 @@
 -- The match of two stored ads: verdict, ranks, steps, and what is left in the table and in the list's room. v and b are the words and
 -- bytes of the first ad, w and c those of the second. Assumes nothing.
-use Prim.Native.Nat.{ℕ, zero, suc, _-_, _*_, _^_, _≤_, _<_}
+use Prim.Native.Nat.{ℕ, suc, _-_, _*_, _^_, _≤_, _<_}
 use mathlib.Core.Path.{_≡_}
 use mathlib.Core.Bool.{Bool, true, false, cond, _&&_}
 use mathlib.Core.List.{List, [], _∷_, _++_, map}
@@ -31,11 +31,6 @@ isTrue = kinds false false (λ b. b) (λ x. false) (λ x. false) (λ side offset
 -- 'A rank is the Integer if it is 0 or more, otherwise 0 (also for Real, or no Rank at all)'
 abbrev pub rankOf : Value → ℕ
 rankOf = kinds 0 0 (λ b. 0) (λ x. cond (ltb x (2 ^ (width - 1))) x 0) (λ x. 0) (λ side offset length. 0)
-
--- the value that a table holds for a root, told by its mark; 'no Rank at all' is Undefined
-abbrev pub worthAt : List ℕ → ℕ → Value
-worthAt table zero = Undefined
-worthAt table (suc y) = seen (slotAt table y)
 
 -- Worth xs v: v is the value of the definition whose root is in xs, or Undefined where there is none: 'those that exist'; 'or no Rank
 -- at all'

@@ -2,7 +2,7 @@
 // w and c those of the second.
 ghost use mathlib.Core.Path.{_≡_};
 ghost use lib.ListN.{length, replicate};
-ghost use Rattle.links.specs.Pair.{Formed};
+ghost use Rattle.links.specs.Inner.Asked.{Formed};
 ghost use Rattle.ordering.specs.Ordering.{OrdersBy, Ordered};
 
 // A refusal's number and place; or how many transitions the traversal took, and how long the list is.

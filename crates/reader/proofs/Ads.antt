@@ -11,7 +11,7 @@ use Rattle.text.specs.Parts.{sets-append}
 use Rattle.syntax.specs.Tree.{Expr, Definition, Ad, size, nodes}
 use Rattle.syntax.specs.Grammar.{defined}
 use Rattle.ad.specs.Layout.{exprNodes, exprBytes, adNodes, adDefinitions, adBytes}
-use Rattle.ad.specs.Stored.{definedIn}
+use Rattle.ad.specs.Inner.Names.{definedIn}
 use Rattle.ad.specs.Laws.Names.{names-in}
 use Rattle.leaves.specs.Inner.Marks.{Mark, mark, Memory, memory}
 use Rattle.reader.specs.Inner.Post.{storedIn, Holds, one}

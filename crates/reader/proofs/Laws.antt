@@ -18,7 +18,7 @@ use Rattle.syntax.specs.declared.Symbol.the-variants.{OpenBracket, CloseBracket
 use Rattle.lexer.specs.Inner.Meaning.{tokensAt}
 use Rattle.lookahead.specs.Inner.Ask.{NotToken, NotWord, Misfit, Stands}
 use Rattle.ad.specs.Layout.{exprNodes, exprBytes, adNodes, adDefinitions, adBytes}
-use Rattle.ad.specs.Stored.{definedIn}
+use Rattle.ad.specs.Inner.Names.{definedIn}
 use Rattle.leaves.specs.Inner.Marks.{Mark, mark, Memory, memory, left}
 use Rattle.leaves.proofs.Laws.{fewer-left, misfit-of, token-off, word-off}
 use Rattle.expressions.specs.Inner.Post.{ConditionalOk}

@@ -13,7 +13,8 @@ use Rattle.syntax.specs.Reader.{parse, read}
 use Rattle.syntax.specs.Laws.Accepts.{accepts}
 use Rattle.ad.specs.Layout.{padded, adNodes, adDefinitions, adBytes, storedWords, storedBytes}
 use Rattle.leaves.specs.Inner.Marks.{Memory, memory}
-use Rattle.reader.specs.Content.{answer, wordsAfter, bytesAfter, Answered, Left, Cleared}
+use Rattle.reader.specs.Content.{answer, wordsAfter, bytesAfter, Answered}
+use Rattle.reader.specs.Inner.Leaving.{Left, Cleared}
 use Rattle.reader.specs.Inner.Post.{AgreesAd}
 use Rattle.reader.specs.declared.Answer.{Answer}
 use Rattle.reader.specs.declared.Answer.the-variants.{Accepted, Refused}

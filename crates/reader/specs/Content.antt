@@ -1,6 +1,6 @@
 -- What `read` answers and leaves, whatever text and memory it is lent. s is the text, w and b are the words and bytes of the ad's
 -- memory. Assumes nothing.
-use Prim.Native.Nat.{ℕ, _≤_}
+use Prim.Native.Nat.{ℕ}
 use mathlib.Core.Path.{_≡_}
 use mathlib.Core.Bool.{_||_}
 use mathlib.Core.List.{List, _++_}
@@ -47,22 +47,3 @@ pub record Answered (s w b w′ b′ : List ℕ) (r : Answer) : Type 0 where
   pub answers : r ≡ answer s w b
   pub words : w′ ≡ wordsAfter s w b
   pub bytes : b′ ≡ bytesAfter s w b
-
--- exactly the room of an ad, and a text within its bound: 'room for 1,024 nodes, 256 definitions and 16,384 bytes of names and
--- strings'; 'Text 16,384 bytes'
-pub record Exact (s w b : List ℕ) : Type 0 where
-  pub text : length s ≤ 16384
-  pub words : length w ≡ 4864
-  pub bytes : length b ≡ 16384
-
--- what reading into exactly that room leaves: 'Unused room is zero after acceptance', or 'ad memory zero'
-pub record Left (p : R.Answer) (w′ b′ : List ℕ) (r : Answer) : Type 0 where
-  pub answers : r ≡ answerOf p
-  pub words : w′ ≡ wordsOf p
-  pub bytes : b′ ≡ bytesOf p
-
--- a refusal that leaves 'ad memory zero', whatever the readers left there
-pub record Cleared (w b w′ b′ : List ℕ) (k p : ℕ) (r : Answer) : Type 0 where
-  pub answers : r ≡ Refused k p
-  pub words : w′ ≡ replicate (length w) 0
-  pub bytes : b′ ≡ replicate (length b) 0

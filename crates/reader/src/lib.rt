@@ -9,7 +9,8 @@ ghost use lib.ListN.{length};
 ghost use Rattle.ad.specs.Layout.{adWords};
 ghost use Rattle.leaves.specs.Inner.Marks.{mark, memory};
 ghost use Rattle.reader.specs.Inner.Post.{AdRoom, AgreesAd, DefinitionsOk, BehindOk, EndOk, DefinitionOk, DefinitionWithin};
-ghost use Rattle.reader.specs.Content.{Exact, Left, Cleared, Answered};
+ghost use Rattle.reader.specs.Content.{Answered};
+ghost use Rattle.reader.specs.Inner.Leaving.{Exact, Left, Cleared};
 ghost use Rattle.syntax.specs.Reader.{parse};
 
 // What reading a text gives.

@@ -16,7 +16,8 @@ use Rattle.values.specs.declared.Value.the-variants.{Undefined, Error, Boolean,
 use Rattle.values.specs.Values.{Sized}
 use Rattle.slots.specs.declared.Slot.{Slot}
 use Rattle.slots.specs.declared.Slot.the-variants.{Blank, Held}
-use Rattle.slots.specs.Packed.{kindOf, placeWord, loadOf, kindWord, loadWord, slotOf, slotAt, putAt, SizedSlot, Packs, Stored}
+use Rattle.slots.specs.Packed.{kindOf, placeWord, loadOf, kindWord, loadWord, slotOf, slotAt, putAt, Stored}
+use Rattle.slots.specs.Inner.Packing.{SizedSlot, Packs}
 
 -- ---- a value's two words
 side-back : (side : Bool) (o n : ℕ) → o < 2 ^ 16 → n < 2 ^ 16 → not (eqb (placeWord side o n / 2 ^ 32) 0) ≡ side

@@ -12,7 +12,8 @@ use Rattle.integers.specs.Integers.{width}
 use Rattle.values.specs.declared.Value.the-variants.{Undefined, Error, Boolean, Integer, Real, String}
 use Rattle.slots.specs.declared.Slot.{Slot}
 use Rattle.slots.specs.declared.Slot.the-variants.{Blank, Held}
-use Rattle.slots.specs.Packed.{slotOf, slotAt, SizedSlot}
+use Rattle.slots.specs.Packed.{slotOf, slotAt}
+use Rattle.slots.specs.Inner.Packing.{SizedSlot}
 
 pick : (b : Bool) (s t : Slot) → SizedSlot s → SizedSlot t → SizedSlot (cond b s t)
 pick true s t p q = p

@@ -9,7 +9,7 @@ use lib.Ieee.{binary64, toBits, ofBits}
 use Rattle.integers.specs.Integers.{width}
 use Rattle.values.specs.declared.Value.{Value}
 use Rattle.values.specs.declared.Value.the-variants.{Undefined, Error, Boolean, Integer, Real, String}
-use Rattle.values.specs.Values.{kinds, Sized}
+use Rattle.values.specs.Values.{kinds}
 use Rattle.slots.specs.declared.Slot.{Slot}
 use Rattle.slots.specs.declared.Slot.the-variants.{Blank, Held}
 
@@ -53,16 +53,6 @@ slotAt table i = slotOf (getD table (i * 2) 0) (getD table (i * 2 + 1) 0)
 -- the table with a slot in its place
 abbrev pub putAt : List ℕ → ℕ → Slot → List ℕ
 putAt table i s = set (set table (i * 2) (kindWord s)) (i * 2 + 1) (loadWord s)
-
--- a slot whose value fits its word
-abbrev pub SizedSlot : Slot → Type 0
-SizedSlot Blank = Unit {0}
-SizedSlot (Held v) = Sized v
-
--- r is the word that carries v, and gives v back
-pub record Packs (v : Value) (r : ℕ) : Type 0 where
-  pub word : r ≡ loadOf v
-  pub back : slotOf (kindOf v) r ≡ Held v
 
 -- the table after a store: what it holds, that slot i holds s where the table has room for it, and that every other slot is kept
 pub record Stored (before after : List ℕ) (i : ℕ) (s : Slot) : Type 0 where

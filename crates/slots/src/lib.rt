@@ -3,7 +3,8 @@ ghost use mathlib.Core.Path.{_≡_};
 ghost use Prim.Native.Nat.{_+_, _*_, _<_};
 ghost use lib.ListN.{getD, set};
 ghost use lib.Ieee.{binary64, toBits, ofBits};
-ghost use Rattle.slots.specs.Packed.{kindOf, placeWord, slotOf, slotAt, Packs, Stored};
+ghost use Rattle.slots.specs.Packed.{kindOf, placeWord, slotOf, slotAt, Stored};
+ghost use Rattle.slots.specs.Inner.Packing.{Packs};
 use values::Value;
 
 // 'Each slot of the table is blank or holds a value.'

@@ -10,7 +10,8 @@ use lib.ListN.{length}
 use lib.Dec.{ltb}
 use borrow.Author.Tests.{le-ltb, lt-ltb}
 use Rattle.graph.specs.Laws.Traversal.{list-unique}
-use Rattle.links.specs.Pair.{pairGraph, Formed}
+use Rattle.links.specs.Pair.{pairGraph}
+use Rattle.links.specs.Inner.Asked.{Formed}
 use Rattle.matching.specs.Matching.{Match}
 use Rattle.matching.specs.Laws.OneAnswer.{Same, match-one, count-one}
 use Rattle.matching.specs.declared.Outcome.{Outcome}

@@ -11,7 +11,8 @@ use Rattle.ad.specs.Layout.{adWords}
 use Rattle.ad.specs.Stored.{nodeCount}
 use Rattle.graph.specs.Members.{Distinct}
 use Rattle.graph.specs.Laws.Traversal.{TheList, the-list}
-use Rattle.links.specs.Pair.{pairGraph, Formed}
+use Rattle.links.specs.Pair.{pairGraph}
+use Rattle.links.specs.Inner.Asked.{Formed}
 use Rattle.links.specs.Laws.Counting.{nodes-few}
 use Rattle.links.specs.Laws.Numbering.{pair-size}
 use Rattle.links.specs.Laws.Soundness.{pair-sound}

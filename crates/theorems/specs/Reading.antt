@@ -19,7 +19,7 @@ use Rattle.well_formed.specs.Laws.Bounds.{bounded, read-holds}
 use Rattle.well_formed.specs.Laws.Whole.{holds-long}
 use Rattle.well_formed.specs.Laws.Named.{bounded-named}
 use Rattle.ad.specs.Stored.{nodeCount}
-use Rattle.links.specs.Pair.{Formed}
+use Rattle.links.specs.Inner.Asked.{Formed}
 use Rattle.links.specs.Laws.Layout.{stored-nodes, stored-formed}
 use Rattle.printer.specs.Prints.{Roomy}
 use Rattle.reader.specs.declared.Answer.{Answer}

@@ -65,7 +65,8 @@ use Rattle.graph.specs.Transition as moves
 use Rattle.graph.specs.Transition.{State, transition, transitions, Ended}
 use Rattle.graph.specs.Laws.Locality.{Alike, local}
 use Rattle.graph.specs.Laws.Touch.{Touch, one-touch}
-use Rattle.links.specs.Pair.{numbered, requirements, rank, pairGraph, Formed}
+use Rattle.links.specs.Pair.{numbered, requirements, rank, pairGraph}
+use Rattle.links.specs.Inner.Asked.{Formed}
 use Rattle.dependency.specs.Traversal.{Traversed}
 use Rattle.valuation.specs.Gives.{Gives}
 use Rattle.evaluation.specs.Evaluation.{ruleAt, seen, needed, entries, Stepped, RunTo}

@@ -10,7 +10,8 @@ use borrow.Author.Tests.{ne-eqb}
 use Rattle.syntax.specs.Tree.{Ad, nodes}
 use Rattle.syntax.specs.Print.{definitionsText, printedAd}
 use Rattle.ad.specs.Layout.{adBytes}
-use Rattle.ad.specs.Stored.{offsetAt, lengthAt, bytesAt, definedIn}
+use Rattle.ad.specs.Stored.{offsetAt, lengthAt, bytesAt}
+use Rattle.ad.specs.Inner.Names.{definedIn}
 use Rattle.well_formed.specs.Inner.Decode.{rowsLength, RowsOk, newFrom, zeroBehind}
 use Rattle.well_formed.specs.WellFormed.{AnswersRoom, Answers}
 use Rattle.well_formed.specs.Laws.Prints.{length-ad-print}

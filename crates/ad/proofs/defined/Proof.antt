@@ -2,7 +2,7 @@ use borrow.Author.Needs.{needs}
 use native.Mathlib.Omega.{arith}
 use mathlib.Core.Path.{_≡_, sym, _∙_}
 use Prim.Native.Nat.{_-_, _≤_}
-use Rattle.ad.specs.Stored.{definedIn}
+use Rattle.ad.specs.Inner.Names.{definedIn}
 use Rattle.ad.proofs.Laws.{look-more, look-found, look-end, look-all}
 use Rattle.ad.proofs.defined.Statement.{statement}
 use Rattle.ad.proofs.defined.Tie as tie

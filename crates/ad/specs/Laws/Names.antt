@@ -8,7 +8,7 @@ use lib.Seq.{take-append-seam, drop-append-seam, drop-drop, getD-drop}
 use Rattle.syntax.specs.Tree.{Ad, size}
 use Rattle.syntax.specs.Grammar.{defined}
 use Rattle.ad.specs.Layout.{exprBytes, adDefinitions, adBytes}
-use Rattle.ad.specs.Stored.{definedIn}
+use Rattle.ad.specs.Inner.Names.{definedIn}
 
 -- from the words and bytes of some definitions on
 pub names-in : (w b name : List ℕ) (n o j : ℕ) (a : Ad) (W B : List ℕ) → drop (4096 + 3 * j) w ≡ adDefinitions n o a ++ W → drop o b ≡ adBytes a ++ B → definedIn w b name j (length a) ≡ defined name a

@@ -4,7 +4,7 @@ use mathlib.Core.Path.{_≡_, subst}
 use mathlib.Core.List.{List}
 use lib.ListN.{take}
 use Rattle.ad.specs.Layout.{adWords, adBytesRoom}
-use Rattle.links.specs.Pair.{Formed}
+use Rattle.links.specs.Inner.Asked.{Formed}
 use Rattle.links.specs.Laws.Layout.{stored-formed}
 use Rattle.well_formed.specs.WellFormed.{Answers}
 use Rattle.well_formed.specs.Laws.Bounds.{bounded}

@@ -4,7 +4,8 @@ use Rattle.values.specs.declared.Value.{Value}
 use Rattle.values.specs.declared.Value.the-variants.{Undefined, Error, Boolean, Integer, Real, String}
 use Rattle.operands.specs.Inner.Operands.{operandsOf, numberOnly}
 use Rattle.arithmetic.specs.declared.Arithmetic.{Arithmetic}
-use Rattle.arithmetic.specs.Arithmetic.{arithmeticResult, arithmeticValue}
+use Rattle.arithmetic.specs.Arithmetic.{arithmeticValue}
+use Rattle.arithmetic.specs.Inner.Operands.{arithmeticResult}
 
 pub arithmetic-by-pair : (op : Arithmetic) (a b : Value) → arithmeticResult op (operandsOf (numberOnly a) (numberOnly b)) ≡ arithmeticValue op a b
 arithmetic-by-pair op Undefined Undefined = refl

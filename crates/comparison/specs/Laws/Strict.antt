@@ -6,7 +6,8 @@ use Rattle.values.specs.declared.Value.{Value}
 use Rattle.values.specs.declared.Value.the-variants.{Undefined, Error, Boolean, Integer, Real, String}
 use Rattle.operands.specs.Inner.Operands.{operandsOf}
 use Rattle.comparison.specs.declared.Comparison.{Comparison}
-use Rattle.comparison.specs.Comparison.{comparisonResult, comparisonValue}
+use Rattle.comparison.specs.Comparison.{comparisonValue}
+use Rattle.comparison.specs.Inner.Operands.{comparisonResult}
 
 pub comparison-by-pair : (first second : List ℕ) (op : Comparison) (a b : Value) → comparisonResult first second op (operandsOf a b) ≡ comparisonValue first second op a b
 comparison-by-pair first second op Undefined Undefined = refl

@@ -1,6 +1,6 @@
 use mathlib.Core.Path.{sym, ap}
 use Rattle.graph.specs.declared.Place.{Place}
-use Rattle.dependency.specs.Traversal.{endedAt}
+use Rattle.dependency.specs.Inner.Asked.{endedAt}
 use borrow.Author.Needs.{needs}
 use Rattle.dependency.proofs.ended.Statement.{statement}
 use Rattle.dependency.proofs.ended.Tie as tie

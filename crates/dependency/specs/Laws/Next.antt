@@ -11,9 +11,10 @@ use Rattle.graph.specs.Laws.Range.{InRange, slotted, range-kept}
 use Rattle.graph.specs.Laws.Numbers.{PlaceSmall, Small, small-kept}
 use Rattle.graph.specs.declared.Place.{Place}
 use Rattle.graph.specs.declared.Place.the-variants.{Resolving, Starting, Searching, Closing, Between, Inside}
-use Rattle.links.specs.Pair.{pairGraph, Formed}
+use Rattle.links.specs.Pair.{pairGraph}
+use Rattle.links.specs.Inner.Asked.{Formed}
 use Rattle.links.specs.Laws.Soundness.{pair-sound}
-use Rattle.dependency.specs.Traversal.{PlaceFits}
+use Rattle.dependency.specs.Inner.Asked.{PlaceFits}
 
 module _ (v b w c : List ℕ) where
   pub slots-fit : pairGraph v b w c .slots ≤ 65534

@@ -10,9 +10,10 @@ use Rattle.graph.specs.Members.{numbers, raised}
 use Rattle.graph.specs.Graph.{Graph, Sound, needs}
 use Rattle.graph.specs.Transition.{named, led}
 use Rattle.graph.specs.Laws.Traversal.{marks-back}
-use Rattle.links.specs.Pair.{Formed}
+use Rattle.links.specs.Inner.Asked.{Formed}
 use Rattle.marks.specs.Inner.Memory.{marksRoom, Clear}
-use Rattle.dependency.specs.Traversal.{Ready, Traversed}
+use Rattle.dependency.specs.Traversal.{Traversed}
+use Rattle.dependency.specs.Inner.Asked.{Ready}
 
 pub clear-zeros : (n : ℕ) → Clear (replicate n 0)
 clear-zeros zero i = refl

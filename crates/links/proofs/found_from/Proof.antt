@@ -1,7 +1,7 @@
 use denote.Ref.{now}
 use mathlib.Core.Bool.{Bool}
 use mathlib.Core.Path.{sym, subst}
-use Rattle.links.specs.Pair.{Printed}
+use Rattle.links.specs.Inner.Asked.{Printed}
 use Rattle.links.specs.Laws.Numbering.{nodes-fit, found-own, found-other, found-none}
 use borrow.Author.Needs.{needs}
 use Rattle.links.proofs.found_from.Statement.{statement}

@@ -7,7 +7,7 @@ use Prim.Native.Nat.{ℕ, _<_}
 use lib.ListN.{getD}
 use Rattle.names.specs.Inner.Fingerprint.{fingerprintOf}
 use Rattle.ad.specs.Stored.{offsetAt, lengthAt, bytesAt}
-use Rattle.links.specs.Pair.{printAt}
+use Rattle.links.specs.Inner.Asked.{printAt}
 
 -- the first d definitions of an ad, the second or the first, have their fingerprints, and nothing else changed
 pub record Filled (second : Bool) (w b : List ℕ) (d : ℕ) (before after : List ℕ) : Type 0 where

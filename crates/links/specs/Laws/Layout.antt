@@ -20,7 +20,8 @@ use Rattle.graph.specs.Members.{_∈_, Each}
 use Rattle.graph.specs.Laws.Members.{mem-nil, mem-cons}
 use Rattle.graph.specs.Graph.{Sound}
 use Rattle.ad.specs.Stored.{leading, kindAt, operandAt, nodeCount, definitionCount, lengthAt, rootAt, operands, arity}
-use Rattle.links.specs.Pair.{Formed, StoredAd, pairGraph}
+use Rattle.links.specs.Pair.{StoredAd, pairGraph}
+use Rattle.links.specs.Inner.Asked.{Formed}
 use Rattle.links.specs.Laws.Counting.{leading-is}
 use Rattle.links.specs.Laws.Soundness.{pair-sound}
 

@@ -16,7 +16,8 @@ use Rattle.graph.specs.Laws.Members.{at-mem}
 use Rattle.graph.specs.Graph.{Graph}
 use Rattle.graph.specs.Transition.{led, needed, named, marked}
 use Rattle.ad.specs.Stored.{kindAt, operandAt, nameAt, nodeCount, arity, operands, isOwn, isOther, isReference, find}
-use Rattle.links.specs.Pair.{numbered, linked, inside, across, linksFrom, refersAt, both, pairGraph, Formed, Measured, Stands}
+use Rattle.links.specs.Pair.{numbered, linked, inside, across, linksFrom, refersAt, both, pairGraph}
+use Rattle.links.specs.Inner.Asked.{Formed, Measured, Stands}
 use Rattle.links.specs.Laws.Counting.{nodes-few, definitions-few, arity-few}
 use Rattle.links.specs.Laws.Soundness.{both-low, both-high}
 use Rattle.graph.specs.Members.{numbers, raised}

@@ -12,7 +12,8 @@ use Rattle.graph.specs.Members.{_∈_}
 use Rattle.graph.specs.Laws.Members.{at-mem}
 use Rattle.graph.specs.Transition.{marked}
 use Rattle.ad.specs.Stored.{find}
-use Rattle.links.specs.Pair.{numbered, rootsOf, requirements, rank, pairGraph, unmarked, Measured, RootMarks}
+use Rattle.links.specs.Pair.{numbered, rootsOf, requirements, rank, pairGraph}
+use Rattle.links.specs.Inner.Asked.{unmarked, Measured, RootMarks}
 use Rattle.links.specs.Laws.Counting.{found-few}
 use Rattle.links.specs.Laws.Soundness.{pair-sound}
 use Rattle.links.specs.Laws.Numbering.{stands-small}

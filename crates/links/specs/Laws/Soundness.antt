@@ -15,7 +15,8 @@ use Rattle.graph.specs.Members.{_∈_, here, there, Each}
 use Rattle.graph.specs.Laws.Members.{mem-nil, mem-cons, mem-append, Sides, room-sides}
 use Rattle.graph.specs.Graph.{Graph, Node, Sound}
 use Rattle.ad.specs.Stored.{kindAt, nodeCount, definitionCount, isOwn, isOther, operands, nameAt, rootAt, find, rootsFrom}
-use Rattle.links.specs.Pair.{numbered, linked, inside, across, linksFrom, refersAt, both, rootsOf, requirements, rank, pairGraph, Formed}
+use Rattle.links.specs.Pair.{numbered, linked, inside, across, linksFrom, refersAt, both, rootsOf, requirements, rank, pairGraph}
+use Rattle.links.specs.Inner.Asked.{Formed}
 use Rattle.links.specs.Laws.Counting.{nodes-few, roots-each, found-few, found-root, map-from, arity-few}
 
 -- ---- the two sides

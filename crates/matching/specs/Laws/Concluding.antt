@@ -19,7 +19,8 @@ use Rattle.graph.specs.Graph.{Graph, Flags}
 use Rattle.valuation.specs.Gives.{Gives}
 use Rattle.valuation.specs.Laws.Values.{gives-unique}
 use Rattle.evaluation.specs.Evaluation.{seen}
-use Rattle.matching.specs.Matching.{worthAt, Worth, absent, present}
+use Rattle.matching.specs.Matching.{Worth, absent, present}
+use Rattle.matching.specs.Inner.Worth.{worthAt}
 
 -- a root's value by its mark
 pub worth-none : (table : List ℕ) {m : ℕ} → m ≡ 0 → Undefined ≡ worthAt table m

@@ -12,7 +12,8 @@ use Rattle.syntax.specs.Bounds.{maxNodes}
 use Rattle.ad.specs.Stored.{kindAt, operandAt, arity, unaryOf, binaryOf, isReference, operands, nameAt, find}
 use Rattle.graph.specs.Members.{_∈_, here, there, Each}
 use Rattle.graph.specs.Graph.{Node, Flags, needs}
-use Rattle.links.specs.Pair.{numbered, linked, inside, across, linksFrom, refersAt, both, rootsOf, requirements, rank, pairGraph, Formed}
+use Rattle.links.specs.Pair.{numbered, linked, inside, across, linksFrom, refersAt, both, rootsOf, requirements, rank, pairGraph}
+use Rattle.links.specs.Inner.Asked.{Formed}
 use Rattle.links.specs.Laws.Counting.{nodes-few, found-root}
 use Rattle.links.specs.Laws.Soundness.{both-low, both-high, root-in, links-each, pair-sound}
 use Rattle.values.specs.declared.Value.{Value}

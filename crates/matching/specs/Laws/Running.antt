@@ -10,7 +10,8 @@ use Rattle.graph.specs.Members.{_∈_, raised}
 use Rattle.graph.specs.Laws.Members.{mem-right}
 use Rattle.graph.specs.Graph.{Graph, Sound, Path⁺, Flags, needs, Entered}
 use Rattle.graph.specs.Laws.Traversal.{needs-acyclic, list-unique}
-use Rattle.links.specs.Pair.{pairGraph, Formed}
+use Rattle.links.specs.Pair.{pairGraph}
+use Rattle.links.specs.Inner.Asked.{Formed}
 use Rattle.links.specs.Laws.Soundness.{pair-sound}
 use Rattle.dependency.specs.Traversal.{Traversed}
 use Rattle.dependency.specs.Laws.Use.{needs-led}

@@ -17,7 +17,8 @@ use Rattle.graph.specs.Graph.{Sound, Node, Flags, needs, Entered}
 use Rattle.graph.specs.Transition.{transitions, first}
 use Rattle.graph.specs.Laws.Traversal.{needs-links, needs-acyclic, within-square}
 use Rattle.graph.specs.Laws.Progress.{Exactly, traverse-exactly}
-use Rattle.links.specs.Pair.{rootsOf, requirements, rank, pairGraph, Formed}
+use Rattle.links.specs.Pair.{rootsOf, requirements, rank, pairGraph}
+use Rattle.links.specs.Inner.Asked.{Formed}
 use Rattle.links.specs.Laws.Soundness.{pair-sound}
 use Rattle.values.specs.declared.Value.{Value}
 use Rattle.slots.specs.declared.Slot.{Slot}

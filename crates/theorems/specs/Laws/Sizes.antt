@@ -14,7 +14,8 @@ use Rattle.values.specs.Values.{Sized}
 use Rattle.operators.proofs.Sizes.{binary-sized, unary-sized, conditional-sized, choose}
 use Rattle.slots.specs.declared.Slot.{Slot}
 use Rattle.slots.specs.declared.Slot.the-variants.{Blank, Held}
-use Rattle.slots.specs.Packed.{slotAt, SizedSlot}
+use Rattle.slots.specs.Packed.{slotAt}
+use Rattle.slots.specs.Inner.Packing.{SizedSlot}
 use Rattle.slots.proofs.Sizes.{sized-at}
 use Rattle.nodes.specs.declared.Node.{Node}
 use Rattle.nodes.specs.declared.Node.the-variants.{Constant, Reference, OfOne, OfTwo, Conditional}

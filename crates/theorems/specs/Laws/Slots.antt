@@ -7,7 +7,8 @@ use lib.ListN.{length, set, length-set}
 use Rattle.graph.specs.Members.{here, there, Each}
 use Rattle.slots.specs.declared.Slot.{Slot}
 use Rattle.slots.specs.declared.Slot.the-variants.{Held}
-use Rattle.slots.specs.Packed.{slotAt, putAt, SizedSlot, Stored}
+use Rattle.slots.specs.Packed.{slotAt, putAt, Stored}
+use Rattle.slots.specs.Inner.Packing.{SizedSlot}
 use Rattle.slots.proofs.Round.{unpack-pack, same-slot, other-slot}
 use Rattle.valuation.specs.Run.{stepTable, steps}
 use Rattle.evaluation.specs.Evaluation.{ruleAt, seen, stepWords, stepsWords}

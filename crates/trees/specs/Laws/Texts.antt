@@ -22,11 +22,13 @@ use Rattle.operands.specs.declared.Operands.the-variants.{Refused, Missing, Int
 use Rattle.operands.specs.Inner.Operands.{operandsOf, numberOnly}
 use Rattle.arithmetic.specs.declared.Arithmetic.{Arithmetic}
 use Rattle.arithmetic.specs.declared.Arithmetic.the-variants as arithmetic
-use Rattle.arithmetic.specs.Arithmetic.{arithmeticResult, arithmeticValue, integersResult}
+use Rattle.arithmetic.specs.Arithmetic.{arithmeticValue, integersResult}
+use Rattle.arithmetic.specs.Inner.Operands.{arithmeticResult}
 use Rattle.arithmetic.specs.Laws.Strict.{arithmetic-by-pair}
 use Rattle.comparison.specs.declared.Comparison.{Comparison}
 use Rattle.comparison.specs.declared.Comparison.the-variants as comparison
-use Rattle.comparison.specs.Comparison.{comparisonResult, comparisonValue}
+use Rattle.comparison.specs.Comparison.{comparisonValue}
+use Rattle.comparison.specs.Inner.Operands.{comparisonResult}
 use Rattle.comparison.specs.Laws.Strict.{comparison-by-pair}
 use Rattle.operators.specs.Operators.{binaryValue, unaryValue}
 use Rattle.trees.specs.Values.{Denotes, adOf, Means, is-literal, is-circular, is-absent, is-found, is-unary, is-binary, is-conditional, Part, whole, taken, otherwise, FromLiteral}

@@ -1,7 +1,8 @@
 use mathlib.Core.Path.{_≡_, sym, _∙_, ap}
 use Prim.Native.Nat.{ℕ, _-_, _≤_}
 use mathlib.Core.List.{List}
-use Rattle.ad.specs.Stored.{bytesAt, definedIn}
+use Rattle.ad.specs.Stored.{bytesAt}
+use Rattle.ad.specs.Inner.Names.{definedIn}
 use Rattle.well_formed.specs.Inner.Decode.{newFrom}
 use Rattle.well_formed.proofs.Answer.{new-more, new-stop, new-end, new-all}
 use borrow.Author.Needs.{needs}

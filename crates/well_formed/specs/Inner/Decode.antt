@@ -13,7 +13,8 @@ use Rattle.syntax.specs.Print.{binaryText, binds, printed, definitionText, wrap
 use Rattle.syntax.specs.declared.Binary.{Binary}
 use Rattle.lexemes.specs.Inner.Lexeme.{every, isName, isString, isReal}
 use Rattle.ad.specs.Layout.{exprBytes, adBytes}
-use Rattle.ad.specs.Stored.{kindAt, operandAt, offsetAt, lengthAt, rootAt, bytesAt, definedIn, unaryOf, binaryOf}
+use Rattle.ad.specs.Stored.{kindAt, operandAt, offsetAt, lengthAt, rootAt, bytesAt, unaryOf, binaryOf}
+use Rattle.ad.specs.Inner.Names.{definedIn}
 use Rattle.well_formed.specs.declared.Rows.{Rows}
 use Rattle.well_formed.specs.declared.Rows.the-variants.{Ads, Wrong}
 use Rattle.well_formed.specs.declared.Shape.{Shape}

@@ -13,7 +13,8 @@ use Rattle.syntax.specs.Tree.{Definition, Ad, size, nodes}
 use Rattle.syntax.specs.Grammar.{defined, NewAfter, Distinct, Within}
 use Rattle.lexemes.specs.Inner.Lexeme.{every}
 use Rattle.ad.specs.Layout.{exprBytes, adBytes, adNodes, adDefinitions, storedWords, storedBytes}
-use Rattle.ad.specs.Stored.{offsetAt, lengthAt, bytesAt, definedIn}
+use Rattle.ad.specs.Stored.{offsetAt, lengthAt, bytesAt}
+use Rattle.ad.specs.Inner.Names.{definedIn}
 use Rattle.ad.specs.Laws.Content.{length-ad, length-entries, padded-length}
 use Rattle.ad.specs.Laws.Names.{names-in}
 use Rattle.well_formed.specs.WellFormed.{Holds}
