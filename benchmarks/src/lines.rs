@@ -41,6 +41,13 @@ impl Table {
         }
     }
 
+    /// Takes the rounds of another pass over the same lines to those of this one.
+    pub fn pool(&mut self, more: Table) {
+        for (line, other) in self.lines.iter_mut().zip(more.lines) {
+            line.times.extend(other.times);
+        }
+    }
+
     /// Times a line: the library's call twice and each other's once in each round.
     pub fn add(&mut self, name: &str, facts: &[String], count: usize, calls: Vec<Timed>) {
         assert_eq!(calls.len(), self.others.len() + 2, "calls of {name}");

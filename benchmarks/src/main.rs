@@ -17,7 +17,9 @@ const USAGE: &str = "usage: benchmarks/run [ROUNDS]
 The first prints the tables of docs/PERFORMANCE.md, the second draws docs/growth-*.svg.
 ";
 
-const ROUNDS: usize = 201;
+/// How often all lines are gone through, and how many rounds a line has each time.
+const PASSES: usize = 5;
+const ROUNDS: usize = 41;
 const PLOT_ROUNDS: usize = 51;
 
 /// A wrong command line, or a file that cannot be written.
@@ -49,14 +51,14 @@ fn number(word: &str) -> Option<usize> {
 fn measure(rounds: Option<usize>) -> Result<(), String> {
     let rounds = rounds.ok_or(USAGE)?;
     println!(
-        "Medians of {rounds} rounds, processor time of the thread. The programs take turns, all built\n\
+        "Medians of {PASSES} passes of {rounds} rounds, taken together, processor time of the thread. The programs take turns, all built\n\
          for release, the reference with overflow checks; it allocates and frees its trees within its\n\
          calls. The linear reference is the same with a linear search for circular references. Spread\n\
          is the 10th to the 90th percentile of a ratio, itself that of the library's to itself.\n\n\
          Load before: {}\n",
         load()
     );
-    print!("{}", tables::run(rounds));
+    print!("{}", tables::run(PASSES, rounds));
     println!("\nLoad after: {}", load());
     Ok(())
 }

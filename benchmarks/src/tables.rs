@@ -52,18 +52,25 @@ fn all_pairs() -> Vec<Pairs> {
     ]
 }
 
-/// All tables, and at the end what the library gives against itself.
-pub fn run(count: usize) -> String {
+/// All tables over so many passes, whose rounds are taken together, and at the end what the
+/// library gives against itself. A pass goes through all lines, so that what disturbs one minute
+/// does not stand in one line alone.
+pub fn run(passes: usize, count: usize) -> String {
     let (texts, pairs) = (all_texts(), all_pairs());
-    let [checking, printing] = stored(count, &texts);
-    let tables = [
-        reading(count, &texts),
-        checking,
-        printing,
-        matching(count, &pairs),
-    ];
+    let mut tables = pass(count, &texts, &pairs);
+    for _ in 1..passes {
+        for (table, more) in tables.iter_mut().zip(pass(count, &texts, &pairs)) {
+            table.pool(more);
+        }
+    }
     let text: String = tables.iter().map(Table::text).collect();
-    text + &transitions(&pairs) + &shares(count, &pairs) + &noise(&tables)
+    text + &transitions(&pairs) + &shares(passes * count, &pairs) + &noise(&tables)
+}
+
+fn pass(count: usize, texts: &[Text], pairs: &[Pairs]) -> [Table; 4] {
+    let [checking, printing] = stored(count, texts);
+    let matching = matching(count, pairs);
+    [reading(count, texts), checking, printing, matching]
 }
 
 fn reading(count: usize, texts: &[Text]) -> Table {
