@@ -76,8 +76,7 @@ exprBytes (unary u a) = exprBytes a
 exprBytes (binary j a b) = exprBytes a ++ exprBytes b
 exprBytes (conditional a b c) = exprBytes a ++ (exprBytes b ++ exprBytes c)
 
--- the bytes of an ad: each definition's name, then those of its expression, for '16,384 bytes of names and strings'; their order is
--- that of docs/LAYOUT.md
+-- the bytes of an ad: each definition's name, then those of its expression (docs/LAYOUT.md)
 unfoldable pub adBytes : Ad → List ℕ
 adBytes [] = []
 adBytes (d ∷ ds) = d .name ++ (exprBytes (d .expression) ++ adBytes ds)

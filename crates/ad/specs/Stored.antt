@@ -31,15 +31,15 @@ operandAt w i j = getD w (4 * i + 1 + j) 0
 unfoldable pub nodeCount : List ℕ → ℕ
 nodeCount w = leading (kindAt w) 0 maxNodes
 
--- definition j: its name's offset, for 'definitions `name = expression`' (docs/LAYOUT.md)
+-- definition j: its name's offset (docs/LAYOUT.md)
 abbrev pub offsetAt : List ℕ → ℕ → ℕ
 offsetAt w j = getD w (nodeWords + 3 * j) 0
 
--- definition j: its name's length, for 'definitions `name = expression`' (docs/LAYOUT.md)
+-- definition j: its name's length (docs/LAYOUT.md)
 abbrev pub lengthAt : List ℕ → ℕ → ℕ
 lengthAt w j = getD w (nodeWords + 3 * j + 1) 0
 
--- definition j: the node of its expression, for 'A reference leads to its definition' (docs/LAYOUT.md)
+-- definition j: the node of its expression (docs/LAYOUT.md)
 abbrev pub rootAt : List ℕ → ℕ → ℕ
 rootAt w j = getD w (nodeWords + 3 * j + 2) 0
 

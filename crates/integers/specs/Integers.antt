@@ -42,6 +42,6 @@ truncatedQuotient w a b = wrap w (quotZ (signed w a) (signed w b))
 abbrev pub signedRemainder : ℕ → ℕ → ℕ → ℕ
 signedRemainder w a b = wrap w (remZ (signed w a) (signed w b))
 
--- the order of the whole numbers: for 'the six comparisons' of Integers
+-- the order of the whole numbers
 abbrev pub lessThan : ℕ → ℕ → ℕ → Bool
 lessThan w a b = ltZ (signed w a) (signed w b)

@@ -84,8 +84,7 @@ definitionAt n name (d ∷ ds) =
 
 -- ---- what is found before the traversal
 
--- the memory w and b holds the ad a, which is within the bounds: for 'reading some text .. would leave exactly this content' and
--- '256 definitions; 1,024 nodes'
+-- the memory w and b holds the ad a, which is within the bounds
 pub record StoredAd (w b : List ℕ) (a : Ad) : Type 0 where
   pub words : w ≡ storedWords a
   pub bytes-are : b ≡ storedBytes a

@@ -84,7 +84,7 @@ examples =
 abbrev minus : Expression → Expression
 minus a = unary Minus a
 
--- -2147483648: for '-2147483648 / -1 is -2147483648'
+-- -2147483648
 abbrev lowest : Expression
 lowest = literal (integer (negsuc 2147483647))
 

@@ -37,8 +37,7 @@ pub data Front : Type 0 where
   wrong : ℕ → Front
 
 module _ {A : Type 0} where
-  -- One of two, of which only the one picked is computed: for 'At one token the order is 3, 7, 5, 4, 6, 8, 9', where one test
-  -- follows another.
+  -- one of two, of which only the one picked is computed
   abbrev pub pick : Bool → (Unit {0} → A) → (Unit {0} → A) → A
   pick true a b = a tt
   pick false a b = b tt

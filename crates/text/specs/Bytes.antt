@@ -13,7 +13,7 @@ unfoldable pub bytes : String → List ℕ
 bytes S.[] = []
 bytes (S._∷_ c s) = code c ∷ bytes s
 
--- lo ≤ b ≤ hi: for 'bytes 0x20 to 0x7E', 'a letter' and 'digits'
+-- lo ≤ b ≤ hi
 abbrev pub between : ℕ → ℕ → ℕ → Bool
 between lo hi b = leb lo b && leb b hi
 
@@ -37,6 +37,6 @@ startsName b = isLetter b || eqb b (code "_")
 unfoldable pub continuesName : ℕ → Bool
 continuesName b = startsName b || isDigit b
 
--- ASCII lower case: for 'Names match without regard to ASCII case' and 'Strings compare by bytes after ASCII lower case'
+-- ASCII lower case
 unfoldable pub lowerCase : ℕ → ℕ
 lowerCase b = cond (between (code "A") (code "Z") b) (b + 32) b

@@ -20,7 +20,7 @@ slice-back s f t h = let e : length (take t s) ≤ f = omega (arith, length-take
 pub slice-snoc : (s : List ℕ) (f i : ℕ) → f ≤ i → i < length s → slice f (i + 1) s ≡ slice f i s ++ (getD s i 0 ∷ [])
 slice-snoc s f i h h′ = rw (add-one i, take-suc s i 0 h′) (drop-append-le f (take i s) (getD s i 0 ∷ []) (omega (arith, length-take i s)))
 
--- a part by its first byte: for 'digits, read in base ten' and for copying 'names and strings'
+-- a part by its first byte
 pub slice-one : (s : List ℕ) (i q : ℕ) → i < q → q ≤ length s → slice i q s ≡ getD s i 0 ∷ slice (i + 1) q s
 slice-one s i q h h′ = rw (add-one i) (slice-cons i q s 0 h h′)
 

@@ -33,8 +33,7 @@ behind p n = (p .0, n + p .1)
 abbrev pub PartFrom : RefT (List ℕ) → ℕ → RefT (List ℕ) → Type 0
 PartFrom m offset r = r .ptr ≡ behind (m .ptr) (min offset (length (m .now)))
 
--- the numbers of a value are those of its types, as those of a value in a program are: for 'wrap at 32 bits', 'a Real carries a
--- 64-bit float' and 'a part of that ad's lent memory'
+-- the numbers of a value are those of its types, as those of a value in a program are
 abbrev pub Sized : Value → Type 0
 Sized Undefined = Unit {0}
 Sized Error = Unit {0}

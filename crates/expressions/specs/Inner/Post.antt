@@ -10,8 +10,7 @@ use Rattle.leaves.specs.Inner.Marks.{Mark, mark, past, Memory, written, left, I
 use Rattle.expressions.specs.declared.Read.{Read}
 use Rattle.expressions.specs.declared.Read.the-variants.{Done, Refused}
 
--- r is p, and where that is a tree, w with the tree stored from m on is w′: for 'A refusal carries its number and a place' and
--- 'reading some text .. would leave exactly this content'
+-- r is p, and where that is a tree, w with the tree stored from m on is w′
 abbrev pub Agrees : List ℕ → Mark → Memory → Memory → Parsed → Read → Type 0
 Agrees s m w w′ p (Done q n k) = (e : Expr) × (p ≡ ok e (tokensAt s q)) × (mark n k ≡ past m e) × (w′ ≡ written w m e)
 Agrees s m w w′ p (Refused k q) = p ≡ refused k q
@@ -30,11 +29,11 @@ ConditionalOk s at d m o w w′ r = (f : ℕ) → 16 * left s at + 10 < f → Ag
 abbrev pub BinaryOk : List ℕ → ℕ → ℕ → ℕ → Mark → ℕ → Memory → Memory → Read → Type 0
 BinaryOk s at b d m o w w′ r = (f : ℕ) → 16 * left s at + (10 - b) < f → Agrees s m w w′ (binaryAt limits f (tokensAt s at) b d (m .nodes + o)) r
 
--- the same for 'unary `! + -`'
+-- the same for `! + -` before an operand
 abbrev pub UnaryOk : List ℕ → ℕ → ℕ → Mark → ℕ → Memory → Memory → Read → Type 0
 UnaryOk s at d m o w w′ r = (f : ℕ) → 16 * left s at + 2 < f → Agrees s m w w′ (unaryAt limits f (tokensAt s at) d (m .nodes + o)) r
 
--- the same for 'literals, references and parentheses'
+-- the same for literals, references and parentheses
 abbrev pub PrimaryOk : List ℕ → ℕ → ℕ → Mark → ℕ → Memory → Memory → Read → Type 0
 PrimaryOk s at d m o w w′ r = (f : ℕ) → 16 * left s at + 1 < f → Agrees s m w w′ (primaryAt limits f (tokensAt s at) d (m .nodes + o)) r
 

@@ -11,7 +11,7 @@ use Rattle.syntax.specs.Bounds.{nameBytes, stringBytes, maxInteger, realDigits}
 use Rattle.syntax.specs.Tree.{Literal, undefined, error, boolean, integer, real, string}
 use Rattle.syntax.specs.Token.{Spelling, reserved}
 
--- whether all of some bytes are of a class: for 'then letters, digits, `_`', 'bytes 0x20 to 0x7E' and 'zeros included'
+-- whether all of some bytes are of a class
 unfoldable pub every : (ℕ → Bool) → List ℕ → Bool
 every class [] = true
 every class (b ∷ l) = class b && every class l

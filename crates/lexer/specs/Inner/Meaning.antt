@@ -98,8 +98,7 @@ pub record Run (class : ℕ → Bool) (s : List ℕ) (at r : ℕ) : Type 0 where
   pub high : r ≤ length s
   pub run : frontOf class (drop at s) ≡ slice at r s
 
--- the digits after a point at the place at end at r, which is at itself where there are none: for 'Real: digits, a point, digits'
--- and '`1.` is Integer, then a point.'
+-- the digits after a point at the place at end at r, which is at itself where there are none
 pub record Fraction (s : List ℕ) (at r : ℕ) : Type 0 where
   pub low : at ≤ r
   pub high : r ≤ length s

@@ -117,7 +117,7 @@ pub record Grows (len len′ : ℕ) (list list′ : List ℕ) : Type 0 where
 abbrev pub Clear : List ℕ → Type 0
 Clear l = (i : ℕ) → getD l i 0 ≡ 0
 
--- slices of marks, and of the list, long enough: for 'a list of 2,048 entries' and marks for 'Every node of each side'
+-- slices of marks, and of the list, long enough
 pub record Roomy (target marks flag list : List ℕ) : Type 0 where
   pub target-room : marksRoom ≤ length target
   pub marks-room : markWords ≤ length marks

@@ -38,8 +38,7 @@ pub record Fits (t : Expr → List ℕ) (w b : List ℕ) (i at : ℕ) : Type 0 w
 abbrev pub Written : (Expr → List ℕ) → List ℕ → List ℕ → ℕ → ℕ → List ℕ → List ℕ → ℕ → Type 0
 Written t w b i at o o′ r = (e : Expr) (s k : ℕ) → Run w b s i k e → Puts (t e) o at o′ r
 
--- what the writer of a literal or a reference is given: for 'keywords in lower case', 'Numbers without idle leading zeros' and
--- 'no blank in `other.name`'
+-- what the writer of a literal or a reference is given
 pub record LeafFits (w b : List ℕ) (i at : ℕ) : Type 0 where
   pub words : 4864 ≤ length w
   pub node : i < 1024
@@ -48,7 +47,7 @@ pub record LeafFits (w b : List ℕ) (i at : ℕ) : Type 0 where
   pub found : leafAt w b i byte ≡ got tree
   pub near : Near at (printed tree)
 
--- what it ensures: for 'keywords in lower case', 'Numbers without idle leading zeros' and 'no blank in `other.name`'
+-- what it ensures
 abbrev pub LeafWritten : List ℕ → List ℕ → ℕ → ℕ → List ℕ → List ℕ → ℕ → Type 0
 LeafWritten w b i at o o′ r = (e : Expr) (k : ℕ) → leafAt w b i k ≡ got e → Puts (printed e) o at o′ r
 

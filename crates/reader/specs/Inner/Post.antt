@@ -74,7 +74,7 @@ DefinitionOk s p q d m w w′ (E.Done r n k) =
     (e : Expr) × ((go : Expr → Tokens → R.Answer) → definitionAt (tokensAt s q) (slice p q s) p a (m .nodes) go ≡ go e (tokensAt s r)) × (n ≡ m .nodes + size e) × Holds (d + 1) (mark n k) w′ v (a ++ one (slice p q s) e)
 DefinitionOk s p q d m w w′ (E.Refused x y) = (a : Ad) (v : Memory) → Holds d m w v a → (go : Expr → Tokens → R.Answer) → definitionAt (tokensAt s q) (slice p q s) p a (m .nodes) go ≡ R.denied x y
 
--- where the reader is behind a definition: for 'the falling number is bytes left' and '256 definitions; 1,024 nodes'
+-- where the reader is behind a definition
 abbrev pub DefinitionWithin : List ℕ → ℕ → ℕ → Read → Type 0
 DefinitionWithin s q d (E.Done r n k) = (q ≤ r) × (r ≤ length s) × (n ≤ 1024) × (d < 256) × (k ≤ r) × (left s r + 1 ≤ left s q)
 DefinitionWithin s q d (E.Refused x y) = Unit {0}

@@ -5,8 +5,7 @@ use mathlib.Core.List.{List}
 use lib.ListN.{length}
 use lib.Seq.{sets}
 
--- t stands from `at` up to r, and all else of the output o is as it was, for 'the bytes after it stay'; what does not fit in is
--- left out
+-- t stands from `at` up to r, and all else of the output o is as it was; what does not fit in is left out
 pub record Puts (t o : List ℕ) (at : ℕ) (o′ : List ℕ) (r : ℕ) : Type 0 where
   pub behind : r ≡ at + length t
   pub written : o′ ≡ sets o at t
