@@ -21,8 +21,9 @@ use Rattle.reader.specs.declared.Answer.{Answer}
 use Rattle.reader.specs.declared.Answer.the-variants as reading
 use Rattle.reader.specs.Content.{answerOf, wordsOf, bytesOf, answer, wordsAfter, bytesAfter, Answered}
 use Rattle.matching.specs.Matching as M
-use Rattle.matching.specs.Matching.{Matched, no-room, first-malformed, second-malformed, matches, tableWords}
+use Rattle.matching.specs.Matching.{Matched, refused, matches, tableWords}
 use Rattle.admission.specs.Admission.{Well, listWords}
+use Rattle.admission.specs.Laws.Refusing.{refused-not-admitted}
 use Rattle.matching.specs.declared.Outcome.{Outcome}
 use Rattle.matching.specs.declared.Outcome.the-variants.{Refused}
 
@@ -90,10 +91,8 @@ ready-matches {v} {b} {w} {c} {budget} {table} {list} {r = r} p q h l m k p′ e
             omega arith
 
     go : {table′ list′ : List ℕ} → Matched v b w c budget table list table′ list′ r → ⊥
-    go (no-room x r t u) = true≢false (sym x ∙ room)
-    go (first-malformed x n r t u) = n (p .well)
-    go (second-malformed x y n r t u) = n (q .well)
-    go (matches x y n values entries m t u) = answered m
+    go (refused x r t u) = refused-not-admitted x (record { roomy = room; first-well = p .well; second-well = q .well })
+    go (matches x values entries m t u) = answered m
 
 -- TWO TEXTS s AND t THAT ARE READ ARE NEVER REFUSED BY A MATCH of what reading left, whatever memory they were read into and whatever the
 -- budget, where it has room for its table and list

@@ -1,6 +1,7 @@
 -- Which two stored ads a call admits. v and b are the words and bytes of the first ad, w and c those of the second. Assumes nothing.
 use Prim.Native.Nat.{ℕ}
-use mathlib.Core.Bool.{Bool, _||_}
+use mathlib.Core.Path.{_≡_}
+use mathlib.Core.Bool.{Bool, true, false, _||_}
 use mathlib.Core.List.{List}
 use lib.ListN.{length, take}
 use lib.Dec.{ltb}
@@ -21,3 +22,15 @@ smallPair v b w c lent room entries =
 -- the bounds above' does not hold of them
 abbrev pub Well : List ℕ → List ℕ → Type 0
 Well w b = (a : Ad) × Holds (take adWords w) (take adBytesRoom b) a
+
+-- the number of a refusal: 'Matching checks 1, then 10 for the first ad, then 10 for the second'
+pub data Refuses (v b w c : List ℕ) (lent room entries : ℕ) : ℕ → Type 0 where
+  no-room : smallPair v b w c lent room entries ≡ true → Refuses v b w c lent room entries 1
+  first-malformed : smallPair v b w c lent room entries ≡ false → ¬ (Well v b) → Refuses v b w c lent room entries 10
+  second-malformed : smallPair v b w c lent room entries ≡ false → Well v b → ¬ (Well w c) → Refuses v b w c lent room entries 10
+
+-- 'two ads are accepted where their match is given neither'
+pub record Admits (v b w c : List ℕ) (lent room entries : ℕ) : Type 0 where
+  pub roomy : smallPair v b w c lent room entries ≡ false
+  pub first-well : Well v b
+  pub second-well : Well w c

@@ -2,7 +2,7 @@
 ghost use mathlib.Core.Path.{_≡_};
 ghost use Rattle.c_matching.specs.Matching.{outcomeNumbers, MatchReported, orderNumbers, OrderReported};
 ghost use Rattle.c_matching.specs.Showing.{heldNumbers, slotNumbers, StringPlaced};
-ghost use Rattle.matching.specs.Matching.{shownAt};
+ghost use Rattle.results.specs.Results.{shownAt};
 ghost use lib.Dec.{eqb};
 ghost use lib.ListN.{length};
 ghost use mathlib.Core.Bool.{cond, not};
@@ -105,7 +105,7 @@ fn slot_numbers(s: Slot) -> [u64; 4]
 pub fn value(table: &[u64], second: u64, node: usize, answer: &mut [u64; 4])
     ensures { λ _. ⌜ now (answer .exit) ≡ slotNumbers (shownAt (now (table .entry)) (not (eqb second 0)) node) ⌝ }
 {
-    *answer = slot_numbers(matching::value_at(table, second != 0, node));
+    *answer = slot_numbers(results::value_at(table, second != 0, node));
 }
 
 // The length of the memory that a String's side is in.
@@ -131,6 +131,6 @@ pub fn string<'a>(
 {
     let n = side_length(first, second, side != 0);
     let start = positions::least(offset as usize, n);
-    let part = matching::string_bytes(first, second, side != 0, offset, length);
+    let part = results::string_bytes(first, second, side != 0, offset, length);
     *answer = [start as u64, part.len() as u64];
 }

@@ -14,7 +14,7 @@ ghost use Rattle.c_ads.specs.Printing.{PrintReported};
 ghost use Rattle.c_ads.specs.Inspecting.{positionNumbers, holderNumbers};
 ghost use Rattle.c_matching.specs.Matching.{MatchReported, OrderReported};
 ghost use Rattle.c_matching.specs.Showing.{slotNumbers, StringPlaced};
-ghost use Rattle.matching.specs.Matching.{shownAt};
+ghost use Rattle.results.specs.Results.{shownAt};
 ghost use Rattle.inspection.specs.Inspection.{nodeText, holder};
 ghost use Rattle.syntax.specs.Print.{printedAd};
 ghost use lib.Dec.{eqb};
@@ -23,13 +23,13 @@ pub use inspection::definition_name;
 pub use inspection::definition_of;
 pub use inspection::expression;
 pub use matching::match_ads;
-pub use matching::string_bytes;
-pub use matching::value_at;
 pub use ordering::order_ads;
 pub use positions::locate;
 pub use printer::print;
 pub use printer::text;
 pub use reader::read;
+pub use results::string_bytes;
+pub use results::value_at;
 pub use well_formed::check;
 
 // An operator of two operands, which are slots 0 and 1 of `operands`. `first` and `second` are the two ads' bytes.

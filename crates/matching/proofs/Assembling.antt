@@ -26,19 +26,15 @@ use Rattle.valuation.specs.Laws.Transfer.{entered-part}
 use Rattle.valuation.specs.Laws.Runs.{run-ran}
 use Rattle.evaluation.specs.Evaluation.{ruleAt, seen, needed, entries, RunTo}
 use Rattle.evaluation.specs.Inner.Asked.{AtRun}
-use Rattle.matching.specs.Matching.{isTrue, rankOf, Worth, Match}
-use Rattle.matching.specs.Inner.Worth.{worthAt}
+use Rattle.verdict.specs.Verdict.{isTrue, rankOf}
+use Rattle.verdict.specs.Inner.Worth.{worthAt}
+use Rattle.verdict.specs.Laws.Marked.{worth-marked}
+use Rattle.matching.specs.Matching.{Worth, Match}
 use Rattle.matching.specs.Laws.Traversed.{entered-of, counted-of}
 use Rattle.matching.specs.Laws.Running.{run-from}
-use Rattle.matching.specs.Laws.Concluding.{worth-of, worth-marked, roots-first, roots-second, ranks-first, ranks-second}
+use Rattle.matching.specs.Laws.Concluding.{worth-of, roots-first, roots-second, ranks-first, ranks-second}
 use Rattle.matching.specs.declared.Outcome.{Outcome}
 use Rattle.matching.specs.declared.Outcome.the-variants.{Finished, Unfinished}
-
--- the answer of a finished match, by its four values
-pub finished-by : (steps count : ℕ) {p q r x y : Bool} {i j m n : ℕ} → r ≡ (p && q) → p ≡ x → q ≡ y → i ≡ m → j ≡ n → Finished r i j steps count ≡ Finished (x && y) m n steps count
-finished-by steps count {p} {q} {r} {x} {y} {i} {j} {m} {n} e a b d f =
-    ap (λ (z : Bool). Finished z i j steps count) (e ∙ ap (λ (z : Bool). z && q) a ∙ ap (λ (z : Bool). x && z) b)
-    ∙ ap (λ (z : ℕ). Finished (x && y) z j steps count) d ∙ ap (λ (z : ℕ). Finished (x && y) m z steps count) f
 
 pub blank-zeros : (n x : ℕ) → slotAt (replicate n 0) x ≡ Blank
 blank-zeros n x = rw (clear-zeros n (x * 2)) refl

@@ -1,3 +1,2 @@
 pub mod Matching
-pub mod Inner
 pub mod Laws

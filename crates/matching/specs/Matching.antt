@@ -1,36 +1,25 @@
 -- The match of two stored ads: verdict, ranks, steps, and what is left in the table and in the list's room. v and b are the words and
 -- bytes of the first ad, w and c those of the second. Assumes nothing.
-use Prim.Native.Nat.{ℕ, suc, _-_, _*_, _^_, _≤_, _<_}
+use Prim.Native.Nat.{ℕ, suc, _-_, _*_, _≤_, _<_}
 use mathlib.Core.Path.{_≡_}
-use mathlib.Core.Bool.{Bool, true, false, cond, _&&_}
+use mathlib.Core.Bool.{Bool, true, false, _&&_}
 use mathlib.Core.List.{List, [], _∷_, _++_, map}
 use lib.ListN.{length, take, drop, replicate}
-use lib.Dec.{ltb}
 use Rattle.ad.specs.Layout.{adWords, adBytesRoom}
-use Rattle.admission.specs.Admission.{listWords, smallPair, Well}
-use Rattle.integers.specs.Integers.{width}
+use Rattle.admission.specs.Admission.{listWords, smallPair, Refuses, Admits}
 use Rattle.values.specs.declared.Value.{Value}
 use Rattle.values.specs.declared.Value.the-variants.{Undefined}
-use Rattle.values.specs.Values.{kinds}
-use Rattle.slots.specs.declared.Slot.{Slot}
+use Rattle.verdict.specs.Verdict.{isTrue, rankOf}
 use Rattle.slots.specs.declared.Slot.the-variants.{Blank, Held}
 use Rattle.slots.specs.Packed.{slotAt}
 use Rattle.graph.specs.Graph.{Graph, Flags, needs, Entered}
 use Rattle.graph.specs.Transition.{transitions, first, Ended}
-use Rattle.links.specs.Pair.{numbered, rootsOf, requirements, rank, pairGraph}
+use Rattle.links.specs.Pair.{rootsOf, requirements, rank, pairGraph}
 use Rattle.valuation.specs.Gives.{Gives}
 use Rattle.valuation.specs.Run.{Ran}
 use Rattle.evaluation.specs.Evaluation.{ruleAt, seen, stepsWords}
 use Rattle.matching.specs.declared.Outcome.{Outcome}
 use Rattle.matching.specs.declared.Outcome.the-variants.{Refused, Finished, Unfinished}
-
--- 'Matched: both Requirements are true, nothing else.'
-abbrev pub isTrue : Value → Bool
-isTrue = kinds false false (λ b. b) (λ x. false) (λ x. false) (λ side offset length. false)
-
--- 'A rank is the Integer if it is 0 or more, otherwise 0 (also for Real, or no Rank at all)'
-abbrev pub rankOf : Value → ℕ
-rankOf = kinds 0 0 (λ b. 0) (λ x. cond (ltb x (2 ^ (width - 1))) x 0) (λ x. 0) (λ side offset length. 0)
 
 -- Worth xs v: v is the value of the definition whose root is in xs, or Undefined where there is none: 'those that exist'; 'or no Rank
 -- at all'
@@ -90,16 +79,10 @@ tableWords = 4096
 abbrev pub small : (v b w c table list : List ℕ) → Bool
 small v b w c table list = smallPair v b w c (length table) tableWords (length list)
 
--- THE CONTRACT OF `match_ads`, over any memory: table′ and list′ are what is lent of them after it. 'Matching checks 1, then 10 for the
--- first ad, then 10 for the second', and then 'all unchanged'; otherwise 'Memory lent beyond these sizes is never changed.'
+-- THE CONTRACT OF `match_ads`, over any memory: table′ and list′ are what is lent of them after it. A refused call leaves 'all
+-- unchanged'; otherwise 'Memory lent beyond these sizes is never changed.'
 pub data Matched (v b w c : List ℕ) (budget : ℕ) (table list table′ list′ : List ℕ) (r : Outcome) : Type 0 where
-  no-room : small v b w c table list ≡ true → r ≡ Refused 1 0 → table′ ≡ table → list′ ≡ list → Matched v b w c budget table list table′ list′ r
-  first-malformed : small v b w c table list ≡ false → ¬ (Well v b) → r ≡ Refused 10 0 → table′ ≡ table → list′ ≡ list → Matched v b w c budget table list table′ list′ r
-  second-malformed : small v b w c table list ≡ false → Well v b → ¬ (Well w c) → r ≡ Refused 10 0 → table′ ≡ table → list′ ≡ list → Matched v b w c budget table list table′ list′ r
-  matches : small v b w c table list ≡ false → Well v b → Well w c → (values entries : List ℕ) →
+  refused : {k : ℕ} → Refuses v b w c (length table) tableWords (length list) k → r ≡ Refused k 0 → table′ ≡ table → list′ ≡ list → Matched v b w c budget table list table′ list′ r
+  matches : Admits v b w c (length table) tableWords (length list) → (values entries : List ℕ) →
       Match (take adWords v) (take adBytesRoom b) (take adWords w) (take adBytesRoom c) budget values entries r →
       table′ ≡ values ++ drop tableWords table → list′ ≡ entries ++ drop listWords list → Matched v b w c budget table list table′ list′ r
-
--- what the slot of a node of an ad, the second or the first, holds: 'Every node of each side has its own slot, 1,024 a side.'
-abbrev pub shownAt : List ℕ → Bool → ℕ → Slot
-shownAt table second node = cond (ltb node 1024) (slotAt table (numbered second node)) Blank

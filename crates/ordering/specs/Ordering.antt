@@ -2,7 +2,6 @@
 -- those of the second. Assumes nothing.
 use Prim.Native.Nat.{ℕ, suc, _-_, _≤_}
 use mathlib.Core.Path.{_≡_}
-use mathlib.Core.Bool.{Bool, true, false}
 use mathlib.Core.List.{List, [], _++_, map}
 use lib.ListN.{length, getD, take, drop, replicate}
 use Rattle.ad.specs.Layout.{adWords, adBytesRoom}
@@ -10,7 +9,7 @@ use Rattle.graph.specs.Members.{raised}
 use Rattle.graph.specs.Graph.{Flags, needs, Entered}
 use Rattle.links.specs.Pair.{pairGraph}
 use Rattle.matching.specs.Matching.{Counted}
-use Rattle.admission.specs.Admission.{listWords, smallPair, Well}
+use Rattle.admission.specs.Admission.{listWords, Refuses, Admits}
 use Rattle.ordering.specs.declared.Order.{Order}
 use Rattle.ordering.specs.declared.Order.the-variants.{Refused, Found}
 
@@ -34,16 +33,10 @@ pub record OrdersBy (v b w c flags list : List ℕ) (r : Order) : Type 0 where
   pub answers : r ≡ Found count len
   pub orders : Orders v b w c flags list count len
 
--- 'lent room smaller than above': of two ads, 2,048 flags and 2,048 entries
-abbrev pub tight : (v b w c flags list : List ℕ) → Bool
-tight v b w c flags list = smallPair v b w c (length flags) listWords (length list)
-
--- THE CONTRACT OF `order_ads`, over any memory. It refuses as a match does: 'Matching checks 1, then 10 for the first ad, then 10 for the
--- second', with 'all unchanged'; and 'Memory lent beyond these sizes is never changed.'
+-- THE CONTRACT OF `order_ads`, over any memory, with 2,048 flags and 2,048 entries. It refuses as a match does, with 'all unchanged'; and
+-- 'Memory lent beyond these sizes is never changed.'
 pub data Ordered (v b w c flags list flags′ list′ : List ℕ) (r : Order) : Type 0 where
-  no-room : tight v b w c flags list ≡ true → r ≡ Refused 1 0 → flags′ ≡ flags → list′ ≡ list → Ordered v b w c flags list flags′ list′ r
-  first-malformed : tight v b w c flags list ≡ false → ¬ (Well v b) → r ≡ Refused 10 0 → flags′ ≡ flags → list′ ≡ list → Ordered v b w c flags list flags′ list′ r
-  second-malformed : tight v b w c flags list ≡ false → Well v b → ¬ (Well w c) → r ≡ Refused 10 0 → flags′ ≡ flags → list′ ≡ list → Ordered v b w c flags list flags′ list′ r
-  orders : tight v b w c flags list ≡ false → Well v b → Well w c → (marks entries : List ℕ) →
+  refused : {k : ℕ} → Refuses v b w c (length flags) listWords (length list) k → r ≡ Refused k 0 → flags′ ≡ flags → list′ ≡ list → Ordered v b w c flags list flags′ list′ r
+  orders : Admits v b w c (length flags) listWords (length list) → (marks entries : List ℕ) →
       OrdersBy (take adWords v) (take adBytesRoom b) (take adWords w) (take adBytesRoom c) marks entries r →
       flags′ ≡ marks ++ drop listWords flags → list′ ≡ entries ++ drop listWords list → Ordered v b w c flags list flags′ list′ r

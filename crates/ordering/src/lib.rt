@@ -1,5 +1,5 @@
-// The circular references and the evaluation order of two stored ads, whatever is lent. v and b are the words and bytes of the first ad,
-// w and c those of the second.
+// The circular references and the evaluation order of two stored ads, whatever is lent.
+use admission::Admission;
 ghost use mathlib.Core.Path.{_≡_};
 ghost use lib.ListN.{length, replicate};
 ghost use Rattle.links.specs.Inner.Asked.{Formed};
@@ -24,49 +24,60 @@ fn clear(marks: &mut [usize])
 
 // Of two well-formed ads, in rooms of exactly that size.
 fn order_formed(
-    v: &[u64],
-    b: &[u8],
-    w: &[u64],
-    c: &[u8],
+    first_words: &[u64],
+    first_bytes: &[u8],
+    second_words: &[u64],
+    second_bytes: &[u8],
     flags: &mut [usize],
     list: &mut [u64],
 ) -> Order
-    requires { ⌜ Formed (now v) × Formed (now w) × (length (now flags) ≡ 2048) × (length (now list) ≡ 2048) ⌝ }
-    ensures { λ r. ⌜ OrdersBy (now (v .entry)) (now (b .entry)) (now (w .entry)) (now (c .entry)) (now (flags .exit)) (now (list .exit)) r ⌝ }
+    requires { ⌜ Formed (now «first_words») × Formed (now «second_words») × (length (now flags) ≡ 2048) × (length (now list) ≡ 2048) ⌝ }
+    ensures { λ r. ⌜ OrdersBy (now («first_words» .entry)) (now («first_bytes» .entry)) (now («second_words» .entry)) (now («second_bytes» .entry)) (now (flags .exit)) (now (list .exit)) r ⌝ }
 {
     clear(flags);
     ad::clear_words(list);
     let mut target = [0usize; 2048];
-    let t = dependency::traverse(v, b, w, c, &mut target, flags, list);
+    let t = dependency::traverse(
+        first_words,
+        first_bytes,
+        second_words,
+        second_bytes,
+        &mut target,
+        flags,
+        list,
+    );
     Order::Found(t.count, t.length)
 }
 
 // The circular references, flagged by 1, and the list of two stored ads.
 pub fn order_ads(
-    v: &[u64],
-    b: &[u8],
-    w: &[u64],
-    c: &[u8],
+    first_words: &[u64],
+    first_bytes: &[u8],
+    second_words: &[u64],
+    second_bytes: &[u8],
     flags: &mut [usize],
     list: &mut [u64],
 ) -> Order
-    ensures { λ r. ⌜ Ordered (now (v .entry)) (now (b .entry)) (now (w .entry)) (now (c .entry)) (now (flags .entry)) (now (list .entry)) (now (flags .exit)) (now (list .exit)) r ⌝ }
+    ensures { λ r. ⌜ Ordered (now («first_words» .entry)) (now («first_bytes» .entry)) (now («second_words» .entry)) (now («second_bytes» .entry)) (now (flags .entry)) (now (list .entry)) (now (flags .exit)) (now (list .exit)) r ⌝ }
 {
-    if admission::too_small(v, b, w, c, flags.len(), admission::ENTRIES, list.len()) {
-        return Order::Refused(1, 0);
+    let admitted = admission::admit(
+        first_words,
+        first_bytes,
+        second_words,
+        second_bytes,
+        flags.len(),
+        admission::ENTRIES,
+        list.len(),
+    );
+    match admitted {
+        Admission::Refused(k) => Order::Refused(k, 0),
+        Admission::Admitted => order_formed(
+            &first_words[..ad::WORDS],
+            &first_bytes[..ad::BYTES],
+            &second_words[..ad::WORDS],
+            &second_bytes[..ad::BYTES],
+            &mut flags[..admission::ENTRIES],
+            &mut list[..admission::ENTRIES],
+        ),
     }
-    if !admission::well(v, b) {
-        return Order::Refused(10, 0);
-    }
-    if !admission::well(w, c) {
-        return Order::Refused(10, 0);
-    }
-    order_formed(
-        &v[..ad::WORDS],
-        &b[..ad::BYTES],
-        &w[..ad::WORDS],
-        &c[..ad::BYTES],
-        &mut flags[..admission::ENTRIES],
-        &mut list[..admission::ENTRIES],
-    )
 }

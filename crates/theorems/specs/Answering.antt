@@ -20,8 +20,8 @@ use Rattle.printer.specs.Prints.{Roomy, Stored, small, malformed, long, PrintsT
 use Rattle.printer.specs.declared.Printed.{Printed}
 use Rattle.printer.specs.declared.Printed.the-variants as printed
 use Rattle.matching.specs.Matching as M
-use Rattle.matching.specs.Matching.{Matched, no-room, first-malformed, second-malformed, matches, tableWords}
-use Rattle.admission.specs.Admission.{Well, listWords}
+use Rattle.matching.specs.Matching.{Matched, refused, matches, tableWords}
+use Rattle.admission.specs.Admission.{Well, listWords, no-room, first-malformed, second-malformed}
 use Rattle.admission.specs.Laws.Wells.{formed-of}
 use Rattle.matching.specs.declared.Outcome.{Outcome}
 use Rattle.matching.specs.declared.Outcome.the-variants.{Refused}
@@ -85,9 +85,9 @@ pub matched-exists : (v b w c : List ℕ) (budget : ℕ) (table list : List ℕ)
 matched-exists v b w c budget table list = room (M.small v b w c table list) refl (holds-dec (take adWords v) (take adBytesRoom b)) (holds-dec (take adWords w) (take adBytesRoom c))
   where
     room : (t : Bool) → M.small v b w c table list ≡ t → Dec (Well v b) → Dec (Well w c) → (table′ list′ : List ℕ) × (r : Outcome) × Matched v b w c budget table list table′ list′ r
-    room true e p q = (table, list, Refused 1 0, no-room e refl refl refl)
-    room false e (no n) q = (table, list, Refused 10 0, first-malformed e n refl refl refl)
-    room false e (yes p) (no n) = (table, list, Refused 10 0, second-malformed e p n refl refl refl)
+    room true e p q = (table, list, Refused 1 0, refused (no-room e) refl refl refl)
+    room false e (no n) q = (table, list, Refused 10 0, refused (first-malformed e n) refl refl refl)
+    room false e (yes p) (no n) = (table, list, Refused 10 0, refused (second-malformed e p n) refl refl refl)
     room false e (yes p) (yes q) =
         let m = match-exists (take adWords v) (take adBytesRoom b) (take adWords w) (take adBytesRoom c) (formed-of v b p) (formed-of w c q) budget in
-        (m .table ++ drop tableWords table, m .list ++ drop listWords list, m .answer, matches e p q (m .table) (m .list) (m .is-match) refl refl)
+        (m .table ++ drop tableWords table, m .list ++ drop listWords list, m .answer, matches (record { roomy = e; first-well = p; second-well = q }) (m .table) (m .list) (m .is-match) refl refl)

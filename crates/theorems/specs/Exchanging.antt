@@ -13,8 +13,10 @@ use Rattle.ad.specs.Layout.{adWords, adBytesRoom, storedWords, storedBytes}
 use Rattle.links.specs.Inner.Asked.{Formed}
 use Rattle.reader.specs.declared.Answer.the-variants.{Accepted}
 use Rattle.reader.specs.Content.{Answered}
-use Rattle.matching.specs.Matching.{Match, Matched, no-room, first-malformed, second-malformed, matches, small, tableWords}
-use Rattle.admission.specs.Admission.{listWords}
+use Rattle.matching.specs.Matching as M
+use Rattle.matching.specs.Matching.{Match, Matched, matches, small, tableWords}
+use Rattle.admission.specs.Laws.Refusing.{refused-not-admitted}
+use Rattle.admission.specs.Admission.{listWords, Refuses, no-room, first-malformed, second-malformed, Admits}
 use Rattle.admission.specs.Laws.Wells.{formed-of}
 use Rattle.matching.specs.Laws.Exchange.{Exchanged, finished, unfinished, exchange}
 use Rattle.matching.specs.Laws.OneAnswer.{match-one}
@@ -91,27 +93,36 @@ small-turned v b w c table list table₂ list₂ e =
     turn-room (ltb (length v) adWords) (ltb (length b) adBytesRoom) (ltb (length w) adWords) (ltb (length c) adBytesRoom) (short table list)
     ∙ ap (λ (z : Bool). ltb (length w) adWords || (ltb (length c) adBytesRoom || (ltb (length v) adWords || (ltb (length b) adBytesRoom || z)))) e
 
+module _ (v b w c table list table₂ list₂ : List ℕ) (same : short table list ≡ short table₂ list₂) where
+  abbrev turned : small v b w c table list ≡ small w c v b table₂ list₂
+  turned = small-turned v b w c table list table₂ list₂ same
+
+  refuses-turned : {k l : ℕ} → Refuses v b w c (length table) tableWords (length list) k → Refuses w c v b (length table₂) tableWords (length list₂) l → k ≡ l
+  refuses-turned (no-room e) (no-room e′) = refl
+  refuses-turned (no-room e) (first-malformed e′ n) = absurd (true≢false (sym e ∙ turned ∙ e′))
+  refuses-turned (no-room e) (second-malformed e′ h n) = absurd (true≢false (sym e ∙ turned ∙ e′))
+  refuses-turned (first-malformed e n) (no-room e′) = absurd (true≢false (sym e′ ∙ sym turned ∙ e))
+  refuses-turned (first-malformed e n) (first-malformed e′ n′) = refl
+  refuses-turned (first-malformed e n) (second-malformed e′ h n′) = refl
+  refuses-turned (second-malformed e h n) (no-room e′) = absurd (true≢false (sym e′ ∙ sym turned ∙ e))
+  refuses-turned (second-malformed e h n) (first-malformed e′ n′) = refl
+  refuses-turned (second-malformed e h n) (second-malformed e′ h′ n′) = refl
+
+  admits-turned : Admits v b w c (length table) tableWords (length list) → Admits w c v b (length table₂) tableWords (length list₂)
+  admits-turned a = record { roomy = sym turned ∙ a .roomy; first-well = a .second-well; second-well = a .first-well }
+
 -- IN ANY MEMORY: two matches of the same memory with the ads exchanged, with the same budget; the rooms lent for table and list may be
 -- others, if both are large enough or neither is
 pub matched-exchange : {v b w c : List ℕ} {budget : ℕ} {table list table′ list′ table₂ list₂ table₂′ list₂′ : List ℕ} {r s : Outcome} → short table list ≡ short table₂ list₂ →
     Matched v b w c budget table list table′ list′ r → Matched w c v b budget table₂ list₂ table₂′ list₂′ s → Turns r s
-matched-exchange same (no-room e a t l) (no-room e′ a′ t′ l′) = refused a a′
-matched-exchange {v} {b} {w} {c} {table = table} {list} {table₂ = table₂} {list₂} same (no-room e a t l) (first-malformed e′ n a′ t′ l′) = absurd (true≢false (sym e ∙ small-turned v b w c table list table₂ list₂ same ∙ e′))
-matched-exchange {v} {b} {w} {c} {table = table} {list} {table₂ = table₂} {list₂} same (no-room e a t l) (second-malformed e′ h n a′ t′ l′) = absurd (true≢false (sym e ∙ small-turned v b w c table list table₂ list₂ same ∙ e′))
-matched-exchange {v} {b} {w} {c} {table = table} {list} {table₂ = table₂} {list₂} same (no-room e a t l) (matches e′ h n values entries m t′ l′) = absurd (true≢false (sym e ∙ small-turned v b w c table list table₂ list₂ same ∙ e′))
-matched-exchange {v} {b} {w} {c} {table = table} {list} {table₂ = table₂} {list₂} same (first-malformed e n a t l) (no-room e′ a′ t′ l′) = absurd (true≢false (sym e′ ∙ sym (small-turned v b w c table list table₂ list₂ same) ∙ e))
-matched-exchange same (first-malformed e n a t l) (first-malformed e′ n′ a′ t′ l′) = refused a a′
-matched-exchange same (first-malformed e n a t l) (second-malformed e′ h′ n′ a′ t′ l′) = refused a a′
-matched-exchange same (first-malformed e n a t l) (matches e′ h′ n′ values entries m t′ l′) = absurd (n n′)
-matched-exchange {v} {b} {w} {c} {table = table} {list} {table₂ = table₂} {list₂} same (second-malformed e h n a t l) (no-room e′ a′ t′ l′) = absurd (true≢false (sym e′ ∙ sym (small-turned v b w c table list table₂ list₂ same) ∙ e))
-matched-exchange same (second-malformed e h n a t l) (first-malformed e′ n′ a′ t′ l′) = refused a a′
-matched-exchange same (second-malformed e h n a t l) (second-malformed e′ h′ n′ a′ t′ l′) = refused a a′
-matched-exchange same (second-malformed e h n a t l) (matches e′ h′ n′ values entries m t′ l′) = absurd (n h′)
-matched-exchange {v} {b} {w} {c} {table = table} {list} {table₂ = table₂} {list₂} same (matches e h n values entries m t l) (no-room e′ a′ t′ l′) = absurd (true≢false (sym e′ ∙ sym (small-turned v b w c table list table₂ list₂ same) ∙ e))
-matched-exchange same (matches e h n values entries m t l) (first-malformed e′ n′ a′ t′ l′) = absurd (n′ n)
-matched-exchange same (matches e h n values entries m t l) (second-malformed e′ h′ n′ a′ t′ l′) = absurd (n′ h)
-matched-exchange {v} {b} {w} {c} same (matches e h n values entries m t l) (matches e′ h′ n′ values′ entries′ m′ t′ l′) =
-    answered (exchange (take adWords v) (take adBytesRoom b) (take adWords w) (take adBytesRoom c) (formed-of v b h) (formed-of w c n) m m′)
+matched-exchange {v} {b} {w} {c} {table = table} {list} {table₂ = table₂} {list₂} same (M.refused x a t l) (M.refused x′ a′ t′ l′) =
+    refused a (a′ ∙ ap (λ (k : ℕ). Refused k 0) (sym (refuses-turned v b w c table list table₂ list₂ same x x′)))
+matched-exchange {v} {b} {w} {c} {table = table} {list} {table₂ = table₂} {list₂} same (M.refused x a t l) (matches e values entries m t′ l′) =
+    absurd (refused-not-admitted x (admits-turned w c v b table₂ list₂ table list (sym same) e))
+matched-exchange {v} {b} {w} {c} {table = table} {list} {table₂ = table₂} {list₂} same (matches e values entries m t l) (M.refused x a′ t′ l′) =
+    absurd (refused-not-admitted x (admits-turned v b w c table list table₂ list₂ same e))
+matched-exchange {v} {b} {w} {c} same (matches e values entries m t l) (matches e′ values′ entries′ m′ t′ l′) =
+    answered (exchange (take adWords v) (take adBytesRoom b) (take adWords w) (take adBytesRoom c) (formed-of v b (e .first-well)) (formed-of w c (e .second-well)) m m′)
 
 -- a finished match in any memory is one of two well-formed ads
 record Inner (v b w c : List ℕ) (budget : ℕ) (r : Outcome) : Type 0 where
@@ -122,10 +133,8 @@ record Inner (v b w c : List ℕ) (budget : ℕ) (r : Outcome) : Type 0 where
   pub is-match : Match (take adWords v) (take adBytesRoom b) (take adWords w) (take adBytesRoom c) budget values entries r
 
 inner : {v b w c : List ℕ} {budget : ℕ} {table list table′ list′ : List ℕ} {verdict : Bool} {i j steps : ℕ} {r : Outcome} → Matched v b w c budget table list table′ list′ r → FinishedAs verdict i j steps r → Inner v b w c budget r
-inner (no-room e a t l) (k, q) = let z : _≡_ {A = ℕ} 0 1 = cc in absurd (omega arith)
-inner (first-malformed e n a t l) (k, q) = let z : _≡_ {A = ℕ} 0 1 = cc in absurd (omega arith)
-inner (second-malformed e h n a t l) (k, q) = let z : _≡_ {A = ℕ} 0 1 = cc in absurd (omega arith)
-inner {v} {b} {w} {c} (matches e h n values entries m t l) x = record { values = values; entries = entries; first-formed = formed-of v b h; second-formed = formed-of w c n; is-match = m }
+inner (M.refused e a t l) (k, q) = let z : _≡_ {A = ℕ} 0 1 = cc in absurd (omega arith)
+inner {v} {b} {w} {c} (matches e values entries m t l) x = record { values = values; entries = entries; first-formed = formed-of v b (e .first-well); second-formed = formed-of w c (e .second-well); is-match = m }
 
 -- IN ANY MEMORY, with two budgets that both finish, and whatever is lent for table and list
 pub matched-exchange-finished : {v b w c : List ℕ} {i j : ℕ} {table list table′ list′ table₂ list₂ table₂′ list₂′ : List ℕ} {verdict verdict′ : Bool} {p q n p′ q′ n′ : ℕ} {r s : Outcome} →

@@ -17,8 +17,8 @@ use Rattle.printer.specs.Prints.{Roomy, Prints}
 use Rattle.printer.specs.declared.Printed.the-variants.{Text}
 use Rattle.reader.specs.declared.Answer.{Answer}
 use Rattle.reader.specs.Content.{Answered}
-use Rattle.matching.specs.Matching.{Matched, no-room, first-malformed, second-malformed, matches, small}
-use Rattle.admission.specs.Admission.{Well}
+use Rattle.matching.specs.Matching.{Matched, refused, matches, small, tableWords}
+use Rattle.admission.specs.Admission.{Well, Refuses, no-room, first-malformed, second-malformed, Admits}
 use Rattle.matching.specs.declared.Outcome.{Outcome}
 use Rattle.theorems.specs.Texts.{match-cast}
 use Rattle.theorems.specs.Printing.{ReadBack, print-then-read}
@@ -59,16 +59,23 @@ small-front v b w c v₁ b₁ w₁ c₁ table list s t =
     ap₂ _||_ (short-front adWords v v₁ (s .words))
     (ap₂ _||_ (short-front adBytesRoom b b₁ (s .bytes)) (ap₂ _||_ (short-front adWords w w₁ (t .words)) (ap₂ _||_ (short-front adBytesRoom c c₁ (t .bytes)) refl)))
 
+module _ {v b w c v₁ b₁ w₁ c₁ : List ℕ} (s : SameFront v b v₁ b₁) (t : SameFront w c w₁ c₁) (table list : List ℕ) where
+  abbrev roomy-front : small v₁ b₁ w₁ c₁ table list ≡ small v b w c table list
+  roomy-front = sym (small-front v b w c v₁ b₁ w₁ c₁ table list s t)
+
+  refuses-front : {k : ℕ} → Refuses v b w c (length table) tableWords (length list) k → Refuses v₁ b₁ w₁ c₁ (length table) tableWords (length list) k
+  refuses-front (no-room e) = no-room (roomy-front ∙ e)
+  refuses-front (first-malformed e n) = first-malformed (roomy-front ∙ e) (λ h. n (well-front (front-back s) h))
+  refuses-front (second-malformed e h n) = second-malformed (roomy-front ∙ e) (well-front s h) (λ k. n (well-front (front-back t) k))
+
+  admits-front : Admits v b w c (length table) tableWords (length list) → Admits v₁ b₁ w₁ c₁ (length table) tableWords (length list)
+  admits-front a = record { roomy = roomy-front ∙ a .roomy; first-well = well-front s (a .first-well); second-well = well-front t (a .second-well) }
+
 -- MEMORY WITH THE SAME FRONT PARTS HAS THE SAME MATCHES, refused ones too
 pub matched-front : {v b w c v₁ b₁ w₁ c₁ : List ℕ} {budget : ℕ} {table list table′ list′ : List ℕ} {r : Outcome} → SameFront v b v₁ b₁ → SameFront w c w₁ c₁ →
     Matched v b w c budget table list table′ list′ r → Matched v₁ b₁ w₁ c₁ budget table list table′ list′ r
-matched-front {v} {b} {w} {c} {v₁} {b₁} {w₁} {c₁} {table = table} {list} s t (no-room e a p q) = no-room (sym (small-front v b w c v₁ b₁ w₁ c₁ table list s t) ∙ e) a p q
-matched-front {v} {b} {w} {c} {v₁} {b₁} {w₁} {c₁} {table = table} {list} s t (first-malformed e n a p q) =
-    first-malformed (sym (small-front v b w c v₁ b₁ w₁ c₁ table list s t) ∙ e) (λ h. n (well-front (front-back s) h)) a p q
-matched-front {v} {b} {w} {c} {v₁} {b₁} {w₁} {c₁} {table = table} {list} s t (second-malformed e h n a p q) =
-    second-malformed (sym (small-front v b w c v₁ b₁ w₁ c₁ table list s t) ∙ e) (well-front s h) (λ k. n (well-front (front-back t) k)) a p q
-matched-front {v} {b} {w} {c} {v₁} {b₁} {w₁} {c₁} {table = table} {list} s t (matches e h n values entries m p q) =
-    matches (sym (small-front v b w c v₁ b₁ w₁ c₁ table list s t) ∙ e) (well-front s h) (well-front t n) values entries (match-cast (s .words) (s .bytes) (t .words) (t .bytes) m) p q
+matched-front {table = table} {list} s t (refused e a p q) = refused (refuses-front s t table list e) a p q
+matched-front {table = table} {list} s t (matches e values entries m p q) = matches (admits-front s t table list e) values entries (match-cast (s .words) (s .bytes) (t .words) (t .bytes) m) p q
 
 -- what is read back has the front parts that were printed
 pub back-front : {w b w₀ b₀ w₁ b₁ : List ℕ} {r : Answer} → ReadBack w b w₀ b₀ w₁ b₁ r → SameFront w b w₁ b₁

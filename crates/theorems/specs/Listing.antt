@@ -16,8 +16,8 @@ use Rattle.links.specs.Inner.Asked.{Formed}
 use Rattle.links.specs.Laws.Counting.{nodes-few}
 use Rattle.links.specs.Laws.Numbering.{pair-size}
 use Rattle.links.specs.Laws.Soundness.{pair-sound}
-use Rattle.matching.specs.Matching.{Match, Matched, no-room, first-malformed, second-malformed, matches}
-use Rattle.admission.specs.Laws.Wells.{formed-of}
+use Rattle.matching.specs.Matching.{Match, Matched, refused, matches}
+use Rattle.admission.specs.Laws.Rooms.{first-formed, second-formed}
 use Rattle.matching.specs.declared.Outcome.{Outcome}
 use Rattle.matching.specs.declared.Outcome.the-variants.{Refused, Finished, Unfinished}
 
@@ -109,11 +109,9 @@ pub record Within (n budget : ℕ) (r : Outcome) : Type 0 where
 -- OF EVERY MATCH IN ANY MEMORY that is not refused
 pub matched-list : {v b w c : List ℕ} {budget : ℕ} {table list table′ list′ : List ℕ} {r : Outcome} → Matched v b w c budget table list table′ list′ r → ((k p : ℕ) → r ≡ Refused k p → ⊥) →
     Within (nodeCount (take adWords v) + nodeCount (take adWords w)) budget r
-matched-list (no-room e a t l) u = absurd (u 1 0 a)
-matched-list (first-malformed e n a t l) u = absurd (u 10 0 a)
-matched-list (second-malformed e h n a t l) u = absurd (u 10 0 a)
-matched-list {v} {b} {w} {c} {budget} {r = r} (matches e h n values entries m t l) u =
-    let x = match-list (formed-of v b h) (formed-of w c n) m in
+matched-list (refused e a t l) u = absurd (u _ 0 a)
+matched-list {v} {b} {w} {c} {budget} {r = r} (matches e values entries m t l) u =
+    let x = match-list (first-formed e) (second-formed e) m in
     record {
       few-steps = x .few-steps;
       in-budget = let s = x .steps in omega arith;

@@ -70,7 +70,8 @@ use Rattle.links.specs.Inner.Asked.{Formed}
 use Rattle.dependency.specs.Traversal.{Traversed}
 use Rattle.valuation.specs.Gives.{Gives}
 use Rattle.evaluation.specs.Evaluation.{ruleAt, seen, needed, entries, Stepped, RunTo}
-use Rattle.matching.specs.Matching.{isTrue, rankOf, Match, small, Matched}
+use Rattle.verdict.specs.Verdict.{isTrue, rankOf}
+use Rattle.matching.specs.Matching.{Match, small, Matched}
 use Rattle.admission.specs.Admission.{Well}
 use Rattle.matching.specs.Laws.Exchange.{Exchanged}
 use Rattle.matching.specs.Laws.OneAnswer as matching

@@ -13,7 +13,7 @@ use Rattle.printer.specs.Prints.{Roomy}
 use Rattle.reader.specs.declared.Answer.{Answer}
 use Rattle.reader.specs.declared.Answer.the-variants.{Accepted}
 use Rattle.reader.specs.Content.{Answered}
-use Rattle.matching.specs.Matching.{Match, Matched, no-room, first-malformed, second-malformed, matches, tableWords}
+use Rattle.matching.specs.Matching.{Match, Matched, refused, matches, tableWords}
 use Rattle.admission.specs.Admission.{listWords}
 use Rattle.matching.specs.declared.Outcome.{Outcome}
 use Rattle.matching.specs.declared.Outcome.the-variants.{Refused}
@@ -51,10 +51,8 @@ match-cast {v} {b} {w} {c} {v′} {b′} {w′} {c′} {budget} {table} {list} {
 -- THE MATCH IS THAT OF THE TREES that were read
 pub trees-match : {s t v₀ b₀ w₀ c₀ v b w c : List ℕ} {x y : Answer} {a e : Ad} {budget : ℕ} {table list table′ list′ : List ℕ} {r : Outcome} →
     ReadAs s v₀ b₀ v b x a → ReadAs t w₀ c₀ w c y e → Matched v b w c budget table list table′ list′ r → ((k p : ℕ) → r ≡ Refused k p → ⊥) → TreesMatch a e budget table list table′ list′ r
-trees-match x y (no-room o q t l) u = absurd (u 1 0 q)
-trees-match x y (first-malformed o n q t l) u = absurd (u 10 0 q)
-trees-match x y (second-malformed o h n q t l) u = absurd (u 10 0 q)
-trees-match x y (matches o h n values entries m t l) u = record {
+trees-match x y (refused o q t l) u = absurd (u _ 0 q)
+trees-match x y (matches o values entries m t l) u = record {
   values = values;
   entries = entries;
   is-match = match-cast (front-words x) (front-bytes x) (front-words y) (front-bytes y) m;

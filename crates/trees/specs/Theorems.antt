@@ -27,7 +27,8 @@ use Rattle.valuation.specs.Gives.{Gives}
 use Rattle.valuation.specs.Laws.Values.{one-value-graph}
 use Rattle.valuation.specs.Laws.Transfer.{entered-part}
 use Rattle.evaluation.specs.Evaluation.{ruleAt}
-use Rattle.matching.specs.Matching.{isTrue, rankOf, Worth, absent, present, Match}
+use Rattle.verdict.specs.Verdict.{isTrue, rankOf}
+use Rattle.matching.specs.Matching.{Worth, absent, present, Match}
 use Rattle.matching.specs.declared.Outcome.{Outcome}
 use Rattle.matching.specs.declared.Outcome.the-variants.{Finished}
 use Rattle.trees.specs.Nodes.{lastOf, nthNode, Says}

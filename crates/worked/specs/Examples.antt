@@ -21,7 +21,7 @@ use Rattle.values.specs.declared.Value.the-variants.{Undefined, Error, Boolean}
 use Rattle.integers.specs.Integers.{wrap, signed}
 use Rattle.nodes.specs.Nodes.{valueIn}
 use Rattle.evaluation.specs.Evaluation.{ruleAt}
-use Rattle.matching.specs.Matching.{isTrue, rankOf}
+use Rattle.verdict.specs.Verdict.{isTrue, rankOf}
 use Rattle.worked.specs.Table as table
 use Rattle.worked.specs.Table.{Row, Holds, AllHold, alone, fault}
 use Rattle.worked.specs.Laws.Solving.{given, tryWith, attempt, list, among, behind, enterWith, enters}

@@ -1,39 +1,21 @@
 -- The value of a definition that the table holds. Assumes nothing.
-use Prim.Native.Nat.{ℕ, zero, suc, _-_}
-use native.Mathlib.Omega.{arith}
+use Prim.Native.Nat.{ℕ}
 use mathlib.Core.Path.{_≡_, refl, sym, ap, _∙_, subst, fun-ext}
-use mathlib.Core.Logic.{_≢_, _⊎_, inl, inr}
+use mathlib.Core.Logic.{_⊎_, inl, inr}
 use mathlib.Core.Bool.{Bool, false, true}
 use mathlib.Core.List.{List, [], _∷_, _++_, map}
 use Rattle.graph.specs.Members.{_∈_, here, Each}
 use Rattle.graph.specs.Laws.Members.{mem-left, mem-right, mem-append}
 use Rattle.links.specs.Pair.{rootsOf, requirements, rank, pairGraph}
-use Rattle.graph.specs.Transition.{marked}
 use Rattle.values.specs.declared.Value.{Value}
-use Rattle.values.specs.declared.Value.the-variants.{Undefined}
 use Rattle.slots.specs.declared.Slot.{Slot}
 use Rattle.slots.specs.declared.Slot.the-variants.{Held}
-use Rattle.slots.specs.Packed.{slotAt}
 use Rattle.nodes.specs.Nodes.{valueIn}
 use Rattle.graph.specs.Graph.{Graph, Flags}
 use Rattle.valuation.specs.Gives.{Gives}
 use Rattle.valuation.specs.Laws.Values.{gives-unique}
 use Rattle.evaluation.specs.Evaluation.{seen}
 use Rattle.matching.specs.Matching.{Worth, absent, present}
-use Rattle.matching.specs.Inner.Worth.{worthAt}
-
--- a root's value by its mark
-pub worth-none : (table : List ℕ) {m : ℕ} → m ≡ 0 → Undefined ≡ worthAt table m
-worth-none table e = rw e refl
-
-pub worth-some : (table : List ℕ) (m : ℕ) {u : Value} → m ≢ 0 → u ≡ seen (slotAt table (m - 1)) → u ≡ worthAt table m
-worth-some table zero n e = absurd (n refl)
-worth-some table (suc y) n e = e ∙ ap (λ (x : ℕ). seen (slotAt table x)) (let q : suc y - 1 ≡ y = omega arith in q)
-
-pub worth-marked : (table l : List ℕ) {m : ℕ} → m ≡ marked l → worthAt table m ≡ valueIn (map (λ y. seen (slotAt table y)) l) 0
-unfolding valueIn
-worth-marked table [] e = ap (worthAt table) e
-worth-marked table (y ∷ ys) e = ap (worthAt table) e
 
 -- what the table holds for a root that was worked out is the value of its definition
 pub worth-of : {need : ℕ → List ℕ} {rule : ℕ → List Value → Value} (t : ℕ → Slot) (l : List ℕ) → Each (λ x. (v : Value) × Gives need rule x v × (t x ≡ Held v)) l →

@@ -30,7 +30,8 @@ use Rattle.valuation.specs.Laws.Values.{gives-unique}
 use Rattle.valuation.specs.Laws.Transfer.{Alike, anil, acons, Embeds, carries, gives-goes, mem-map, map-mem}
 use Rattle.valuation.specs.Laws.Exchange.{list-exchanged}
 use Rattle.evaluation.specs.Evaluation.{nodeFrom, nodeAt, ruleAt}
-use Rattle.matching.specs.Matching.{isTrue, rankOf, Worth, absent, present, Concluded, Match}
+use Rattle.verdict.specs.Verdict.{isTrue, rankOf}
+use Rattle.matching.specs.Matching.{Worth, absent, present, Concluded, Match}
 use Rattle.matching.specs.Laws.Concluding.{roots-first, roots-second, ranks-first, ranks-second, roots-from}
 use Rattle.matching.specs.declared.Outcome.{Outcome}
 use Rattle.matching.specs.declared.Outcome.the-variants.{Finished, Unfinished}

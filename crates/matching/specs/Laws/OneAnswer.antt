@@ -11,11 +11,12 @@ use Rattle.graph.specs.Graph.{Graph, needs, Entered}
 use Rattle.graph.specs.Laws.Order.{entered-unique}
 use Rattle.links.specs.Pair.{pairGraph}
 use Rattle.evaluation.specs.Evaluation.{ruleAt, stepsWords}
-use Rattle.matching.specs.Matching.{Concluded, Counted, Match, tableWords, Matched, no-room, first-malformed, second-malformed, matches}
+use Rattle.matching.specs.Matching.{Concluded, Counted, Match, tableWords, Matched, refused, matches}
 use Rattle.admission.specs.Admission.{listWords}
+use Rattle.admission.specs.Laws.Refusing.{refuses-one, refused-not-admitted}
 use Rattle.matching.specs.Laws.Concluding.{flags-same, worth-unique}
 use Rattle.matching.specs.declared.Outcome.{Outcome}
-use Rattle.matching.specs.declared.Outcome.the-variants.{Unfinished}
+use Rattle.matching.specs.declared.Outcome.the-variants.{Refused, Unfinished}
 
 -- the same answer and the same memory after it
 pub record Same (table list : List ℕ) (r : Outcome) (table′ list′ : List ℕ) (r′ : Outcome) : Type 0 where
@@ -78,22 +79,10 @@ module _ (v b w c : List ℕ) (budget : ℕ) where
 
 -- IN ANY MEMORY
 pub matched-one : {v b w c : List ℕ} {budget : ℕ} {table list table₁ list₁ table₂ list₂ : List ℕ} {r s : Outcome} → Matched v b w c budget table list table₁ list₁ r → Matched v b w c budget table list table₂ list₂ s → Same table₁ list₁ r table₂ list₂ s
-matched-one (no-room e r t l) (no-room e′ r′ t′ l′) = record { tables = t ∙ sym t′; lists = l ∙ sym l′; answers = r ∙ sym r′ }
-matched-one (no-room e r t l) (first-malformed e′ n′ r′ t′ l′) = let z : _≡_ {A = ℕ} 0 1 = cc in absurd (omega arith)
-matched-one (no-room e r t l) (second-malformed e′ h′ n′ r′ t′ l′) = let z : _≡_ {A = ℕ} 0 1 = cc in absurd (omega arith)
-matched-one (no-room e r t l) (matches e′ h′ n′ values entries m t′ l′) = let z : _≡_ {A = ℕ} 0 1 = cc in absurd (omega arith)
-matched-one (first-malformed e n r t l) (no-room e′ r′ t′ l′) = let z : _≡_ {A = ℕ} 0 1 = cc in absurd (omega arith)
-matched-one (first-malformed e n r t l) (first-malformed e′ n′ r′ t′ l′) = record { tables = t ∙ sym t′; lists = l ∙ sym l′; answers = r ∙ sym r′ }
-matched-one (first-malformed e n r t l) (second-malformed e′ h′ n′ r′ t′ l′) = absurd (n h′)
-matched-one (first-malformed e n r t l) (matches e′ h′ n′ values entries m t′ l′) = absurd (n h′)
-matched-one (second-malformed e h n r t l) (no-room e′ r′ t′ l′) = let z : _≡_ {A = ℕ} 0 1 = cc in absurd (omega arith)
-matched-one (second-malformed e h n r t l) (first-malformed e′ n′ r′ t′ l′) = absurd (n′ h)
-matched-one (second-malformed e h n r t l) (second-malformed e′ h′ n′ r′ t′ l′) = record { tables = t ∙ sym t′; lists = l ∙ sym l′; answers = r ∙ sym r′ }
-matched-one (second-malformed e h n r t l) (matches e′ h′ n′ values entries m t′ l′) = absurd (n n′)
-matched-one (matches e h n values entries m t l) (no-room e′ r′ t′ l′) = let z : _≡_ {A = ℕ} 0 1 = cc in absurd (omega arith)
-matched-one (matches e h n values entries m t l) (first-malformed e′ n′ r′ t′ l′) = absurd (n′ h)
-matched-one (matches e h n values entries m t l) (second-malformed e′ h′ n′ r′ t′ l′) = absurd (n′ n)
-matched-one {table = table} {list} (matches e h n values entries m t l) (matches e′ h′ n′ values′ entries′ m′ t′ l′) =
+matched-one (refused x r t l) (refused x′ r′ t′ l′) = record { tables = t ∙ sym t′; lists = l ∙ sym l′; answers = r ∙ ap (λ (k : ℕ). Refused k 0) (refuses-one x x′) ∙ sym r′ }
+matched-one (refused x r t l) (matches a values entries m t′ l′) = absurd (refused-not-admitted x a)
+matched-one (matches a values entries m t l) (refused x r′ t′ l′) = absurd (refused-not-admitted x a)
+matched-one {table = table} {list} (matches a values entries m t l) (matches a′ values′ entries′ m′ t′ l′) =
     let x = match-one _ _ _ _ _ m m′ in
     record {
       tables = t ∙ ap (λ (y : List ℕ). y ++ drop tableWords table) (x .tables) ∙ sym t′;

@@ -38,8 +38,9 @@ use Rattle.slots.specs.Packed.{slotAt}
 use Rattle.valuation.specs.Run.{stepTable}
 use Rattle.evaluation.specs.Evaluation.{seen, Stepped}
 use Rattle.matching.specs.Matching as M
-use Rattle.matching.specs.Matching.{isTrue, rankOf, Counted, Match, Matched, no-room, first-malformed, second-malformed, matches, tableWords}
-use Rattle.admission.specs.Admission.{Well, listWords}
+use Rattle.verdict.specs.Verdict.{isTrue, rankOf}
+use Rattle.matching.specs.Matching.{Counted, Match, Matched, refused, matches, tableWords}
+use Rattle.admission.specs.Admission.{Well, listWords, no-room, first-malformed, second-malformed}
 use Rattle.matching.specs.declared.Outcome.{Outcome}
 use Rattle.matching.specs.declared.Outcome.the-variants as outcome
 use Rattle.ordering.specs.Ordering as O
@@ -138,10 +139,8 @@ found-orders {v} {b} {w} {c} {flags} {list} {count} {len} x =
 pub ordered-found : {v b w c flags list flags′ list′ : List ℕ} {count len : ℕ} → Ordered v b w c flags list flags′ list′ (Found count len) →
     (marks entries : List ℕ) × (flags′ ≡ marks ++ drop listWords flags) × (list′ ≡ entries ++ drop listWords list) ×
     Orders (take adWords v) (take adBytesRoom b) (take adWords w) (take adBytesRoom c) marks entries count len
-ordered-found (O.no-room e a f l) = let z : _≡_ {A = ℕ} 0 1 = cc in absurd (omega arith)
-ordered-found (O.first-malformed e n a f l) = let z : _≡_ {A = ℕ} 0 1 = cc in absurd (omega arith)
-ordered-found (O.second-malformed e h n a f l) = let z : _≡_ {A = ℕ} 0 1 = cc in absurd (omega arith)
-ordered-found (O.orders e h n marks entries o f l) = (marks, entries, f, l, found-orders o)
+ordered-found (O.refused e a f l) = let z : _≡_ {A = ℕ} 0 1 = cc in absurd (omega arith)
+ordered-found (O.orders e marks entries o f l) = (marks, entries, f, l, found-orders o)
 
 -- ---- a step
 
@@ -169,10 +168,10 @@ not-refused {budget = budget} {r = r} {k} {p} m e = go (decLt budget (length (m 
 -- A REFUSED MATCH: its number and place, and 'all unchanged'
 pub match-refuses : {v b w c : List ℕ} {budget : ℕ} {table list table′ list′ : List ℕ} {r : Outcome} {k p : ℕ} → Matched v b w c budget table list table′ list′ r → r ≡ outcome.Refused k p →
     (((k ≡ 1) × (M.small v b w c table list ≡ true)) ⊎ ((k ≡ 10) × (M.small v b w c table list ≡ false) × ¬ (Well v b × Well w c))) × (p ≡ 0) × (table′ ≡ table) × (list′ ≡ list)
-match-refuses {k = k} {p} (no-room e a t l) q = let i : k ≡ 1 = cc in let j : p ≡ 0 = cc in (inl (i, e), j, t, l)
-match-refuses {k = k} {p} (first-malformed e n a t l) q = let i : k ≡ 10 = cc in let j : p ≡ 0 = cc in (inr (i, e, λ x. n (x .0)), j, t, l)
-match-refuses {k = k} {p} (second-malformed e h n a t l) q = let i : k ≡ 10 = cc in let j : p ≡ 0 = cc in (inr (i, e, λ x. n (x .1)), j, t, l)
-match-refuses (matches e h n values entries m t l) q = absurd (not-refused m q)
+match-refuses {k = k} {p} (refused (no-room e) a t l) q = let i : k ≡ 1 = cc in let j : p ≡ 0 = cc in (inl (i, e), j, t, l)
+match-refuses {k = k} {p} (refused (first-malformed e n) a t l) q = let i : k ≡ 10 = cc in let j : p ≡ 0 = cc in (inr (i, e, λ x. n (x .0)), j, t, l)
+match-refuses {k = k} {p} (refused (second-malformed e h n) a t l) q = let i : k ≡ 10 = cc in let j : p ≡ 0 = cc in (inr (i, e, λ x. n (x .1)), j, t, l)
+match-refuses (matches e values entries m t l) q = absurd (not-refused m q)
 
 count-of : {v b w c : List ℕ} {budget : ℕ} {table list : List ℕ} {r : Outcome} (m : Match v b w c budget table list r) → countOf r ≡ m .count
 count-of {budget = budget} {r = r} m = go (decLt budget (length (m .order)))

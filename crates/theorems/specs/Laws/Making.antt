@@ -30,7 +30,8 @@ use Rattle.valuation.specs.Laws.Values.{entered-in}
 use Rattle.valuation.specs.Laws.Transfer.{entered-part}
 use Rattle.valuation.specs.Laws.Runs.{run-ran}
 use Rattle.evaluation.specs.Evaluation.{ruleAt, seen, stepsWords}
-use Rattle.matching.specs.Matching.{isTrue, rankOf, Worth, Counted, Match}
+use Rattle.verdict.specs.Verdict.{isTrue, rankOf}
+use Rattle.matching.specs.Matching.{Worth, Counted, Match}
 use Rattle.matching.specs.Laws.Concluding.{flags-same, worth-of, roots-first, roots-second, ranks-first, ranks-second}
 use Rattle.matching.specs.declared.Outcome.{Outcome}
 use Rattle.matching.specs.declared.Outcome.the-variants.{Finished, Unfinished}

@@ -26,7 +26,8 @@ use Rattle.values.specs.declared.Value.{Value}
 use Rattle.nodes.specs.Nodes.{valueIn}
 use Rattle.valuation.specs.Gives.{Give, nil, cons, Gives}
 use Rattle.evaluation.specs.Evaluation.{ruleAt}
-use Rattle.matching.specs.Matching.{isTrue, rankOf, Worth, absent, present, Match}
+use Rattle.verdict.specs.Verdict.{isTrue, rankOf}
+use Rattle.matching.specs.Matching.{Worth, absent, present, Match}
 use Rattle.matching.specs.Laws.Concluding.{flags-same, worth-unique}
 use Rattle.matching.specs.declared.Outcome.{Outcome}
 use Rattle.matching.specs.declared.Outcome.the-variants.{Finished}

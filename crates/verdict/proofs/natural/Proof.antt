@@ -1,7 +1,7 @@
 use mathlib.Core.Path.{refl}
 use borrow.Author.Tests.{le-ltb, lt-ltb}
-use Rattle.matching.proofs.natural.Statement.{statement}
-use Rattle.matching.proofs.natural.Tie as tie
+use Rattle.verdict.proofs.natural.Statement.{statement}
+use Rattle.verdict.proofs.natural.Tie as tie
 
 returns : tie.Need-returns
 returns c = rw (lt-ltb _ _ (c .if1 .taken)) refl

@@ -1,8 +1,8 @@
 use mathlib.Core.Path.{refl}
 use borrow.Author.Tests.{lt-ltb, le-ltb}
 use borrow.Author.Needs.{needs}
-use Rattle.matching.proofs.value_at.Statement.{statement}
-use Rattle.matching.proofs.value_at.Tie as tie
+use Rattle.results.proofs.value_at.Statement.{statement}
+use Rattle.results.proofs.value_at.Tie as tie
 
 returns : tie.Need-returns
 returns c = rw (lt-ltb _ 1024 (c .before .before .if1 .taken), c .before .if2 .taken) (c .load .ensures)

@@ -1,8 +1,8 @@
 use mathlib.Core.Path.{sym, ap, _∙_}
-use Rattle.matching.specs.Matching.{rankOf}
+use Rattle.verdict.specs.Verdict.{rankOf}
 use borrow.Author.Needs.{needs}
-use Rattle.matching.proofs.rank_of.Statement.{statement}
-use Rattle.matching.proofs.rank_of.Tie as tie
+use Rattle.verdict.proofs.rank_of.Statement.{statement}
+use Rattle.verdict.proofs.rank_of.Tie as tie
 
 returns-4 : tie.Need-returns-4
 returns-4 c = c .natural .ensures ∙ sym (ap rankOf (c .before .before .v .given .1))

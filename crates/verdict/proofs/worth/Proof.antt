@@ -1,8 +1,8 @@
 use denote.Ref.{now}
-use Rattle.matching.specs.Laws.Concluding.{worth-none, worth-some}
+use Rattle.verdict.specs.Laws.Marked.{worth-none, worth-some}
 use borrow.Author.Needs.{needs}
-use Rattle.matching.proofs.worth.Statement.{statement}
-use Rattle.matching.proofs.worth.Tie as tie
+use Rattle.verdict.proofs.worth.Statement.{statement}
+use Rattle.verdict.proofs.worth.Tie as tie
 
 returns : tie.Need-returns
 returns c =
