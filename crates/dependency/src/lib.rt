@@ -62,11 +62,11 @@ fn ended(place: Place, n: usize) -> bool
 
 // The transitions one after another, until no search is left.
 fn run(
-    v: &[u64],
-    b: &[u8],
+    first_words: &[u64],
+    first_bytes: &[u8],
     p: Counts,
-    w: &[u64],
-    c: &[u8],
+    second_words: &[u64],
+    second_bytes: &[u8],
     q: Counts,
     prints: &[u32],
     roots: &[usize],
@@ -75,9 +75,9 @@ fn run(
     flag: &mut [usize],
     list: &mut [u64],
 ) -> Taken
-    requires ads { ⌜ Measured (now v) (p .nodes) (p .definitions) × Measured (now w) (q .nodes) (q .definitions) × (now roots ≡ pairGraph (now v) (now b) (now w) (now c) .roots) × Fingerprints (now v) (now b) (now w) (now c) (now prints) ⌝ }
-    requires ready { ⌜ Ready (now v) (now w) (now target) (now flag) (now list) × (now marks ≡ replicate markWords 0) ⌝ }
-    ensures { λ r. ⌜ Traversed (pairGraph (now (v .entry)) (now (b .entry)) (now (w .entry)) (now (c .entry))) (r .count) (r .length) (now (target .exit)) (now (flag .exit)) (now (list .exit)) ⌝ }
+    requires ads { ⌜ Measured (now «first_words») (p .nodes) (p .definitions) × Measured (now «second_words») (q .nodes) (q .definitions) × (now roots ≡ pairGraph (now «first_words») (now «first_bytes») (now «second_words») (now «second_bytes») .roots) × Fingerprints (now «first_words») (now «first_bytes») (now «second_words») (now «second_bytes») (now prints) ⌝ }
+    requires ready { ⌜ Ready (now «first_words») (now «second_words») (now target) (now flag) (now list) × (now marks ≡ replicate markWords 0) ⌝ }
+    ensures { λ r. ⌜ Traversed (pairGraph (now («first_words» .entry)) (now («first_bytes» .entry)) (now («second_words» .entry)) (now («second_bytes» .entry))) (r .count) (r .length) (now (target .exit)) (now (flag .exit)) (now (list .exit)) ⌝ }
 {
     let n = roots.len();
     let mut s = first_position(p.nodes + q.nodes);
@@ -91,11 +91,11 @@ fn run(
             };
         }
         s = rule::transition(
-            v,
-            b,
+            first_words,
+            first_bytes,
             p,
-            w,
-            c,
+            second_words,
+            second_bytes,
             q,
             prints,
             roots,
@@ -109,36 +109,52 @@ fn run(
     }
 }
 
-// The traversal of two stored ads, v and b the words and bytes of the first, w and c those of the second: from clear targets, flags and
-// an empty list, each of 2,048 numbers or more, to the targets and flags of their references and the list. The other marks are its own.
+// The traversal of two stored ads: from clear targets, flags and an empty list, each of 2,048 numbers or more, to the targets and flags of
+// their references and the list. The other marks are its own.
 pub fn traverse(
-    v: &[u64],
-    b: &[u8],
-    w: &[u64],
-    c: &[u8],
+    first_words: &[u64],
+    first_bytes: &[u8],
+    second_words: &[u64],
+    second_bytes: &[u8],
     target: &mut [usize],
     flag: &mut [usize],
     list: &mut [u64],
 ) -> Traversal
-    requires { ⌜ Ready (now v) (now w) (now target) (now flag) (now list) ⌝ }
-    ensures { λ r. ⌜ Traversed (pairGraph (now (v .entry)) (now (b .entry)) (now (w .entry)) (now (c .entry))) (r .count) (r .length) (now (target .exit)) (now (flag .exit)) (now (list .exit)) ⌝ }
-    ensures roots { λ r. ⌜ RootMarks (now (v .entry)) (now (b .entry)) (now (w .entry)) (now (c .entry)) (r .roots .«first_requirements») (r .roots .«second_requirements») (r .roots .«first_rank») (r .roots .«second_rank») ⌝ }
+    requires { ⌜ Ready (now «first_words») (now «second_words») (now target) (now flag) (now list) ⌝ }
+    ensures { λ r. ⌜ Traversed (pairGraph (now («first_words» .entry)) (now («first_bytes» .entry)) (now («second_words» .entry)) (now («second_bytes» .entry))) (r .count) (r .length) (now (target .exit)) (now (flag .exit)) (now (list .exit)) ⌝ }
+    ensures roots { λ r. ⌜ RootMarks (now («first_words» .entry)) (now («first_bytes» .entry)) (now («second_words» .entry)) (now («second_bytes» .entry)) (r .roots .«first_requirements») (r .roots .«second_requirements») (r .roots .«first_rank») (r .roots .«second_rank») ⌝ }
 {
-    let p = links::measure(v);
-    let q = links::measure(w);
+    let p = links::measure(first_words);
+    let q = links::measure(second_words);
     let mut prints = [0u32; 512];
-    links::fingerprints(v, b, p, w, c, q, &mut prints);
-    let r = links::find_roots(v, b, p, w, c, q, &prints);
+    links::fingerprints(
+        first_words,
+        first_bytes,
+        p,
+        second_words,
+        second_bytes,
+        q,
+        &mut prints,
+    );
+    let r = links::find_roots(
+        first_words,
+        first_bytes,
+        p,
+        second_words,
+        second_bytes,
+        q,
+        &prints,
+    );
     let mut room = [0usize; 4];
     let n = links::list_roots(r, &mut room);
     let roots = &room[..n];
     let mut marks = [0u16; 12288];
     let t = run(
-        v,
-        b,
+        first_words,
+        first_bytes,
         p,
-        w,
-        c,
+        second_words,
+        second_bytes,
         q,
         &prints,
         roots,

@@ -16,40 +16,49 @@ ghost use Rattle.dependency.specs.Inner.Asked.{PlaceFits, FlaggedFrom};
 
 // The transition that resolves the node of index i.
 fn resolving(
-    v: &[u64],
-    b: &[u8],
+    first_words: &[u64],
+    first_bytes: &[u8],
     p: Counts,
-    w: &[u64],
-    c: &[u8],
+    second_words: &[u64],
+    second_bytes: &[u8],
     q: Counts,
     prints: &[u32],
     i: usize,
     len: usize,
     target: &mut [usize],
 ) -> Position
-    requires ads { ⌜ Measured (now v) (p .nodes) (p .definitions) × Measured (now w) (q .nodes) (q .definitions) × Fingerprints (now v) (now b) (now w) (now c) (now prints) ⌝ }
-    requires room { ⌜ (i < nodeCount (now v) + nodeCount (now w)) × (2048 ≤ length (now target)) ⌝ }
-    ensures { λ r. ⌜ ((ma fl ls : List ℕ) → view (r .place) (r .len) (now (target .exit)) ma fl ls ≡ transition (pairGraph (now (v .entry)) (now (b .entry)) (now (w .entry)) (now (c .entry))) (view (Resolving i) len (now (target .entry)) ma fl ls)) ⌝ }
+    requires ads { ⌜ Measured (now «first_words») (p .nodes) (p .definitions) × Measured (now «second_words») (q .nodes) (q .definitions) × Fingerprints (now «first_words») (now «first_bytes») (now «second_words») (now «second_bytes») (now prints) ⌝ }
+    requires room { ⌜ (i < nodeCount (now «first_words») + nodeCount (now «second_words»)) × (2048 ≤ length (now target)) ⌝ }
+    ensures { λ r. ⌜ ((ma fl ls : List ℕ) → view (r .place) (r .len) (now (target .exit)) ma fl ls ≡ transition (pairGraph (now («first_words» .entry)) (now («first_bytes» .entry)) (now («second_words» .entry)) (now («second_bytes» .entry))) (view (Resolving i) len (now (target .entry)) ma fl ls)) ⌝ }
     ensures kept { λ r. ⌜ r .len ≡ len ⌝ }
 {
     let n = p.nodes + q.nodes;
     let x = links::node_at(p.nodes, i);
-    let f = links::found_at(v, b, p.definitions, w, c, q.definitions, x, prints);
+    let f = links::found_at(
+        first_words,
+        first_bytes,
+        p.definitions,
+        second_words,
+        second_bytes,
+        q.definitions,
+        x,
+        prints,
+    );
     marks::resolve(i, n, x, f, len, target)
 }
 
 // The transition that begins loop search k.
 fn starting(
-    v: &[u64],
+    first_words: &[u64],
     p: Counts,
-    w: &[u64],
+    second_words: &[u64],
     q: Counts,
     k: usize,
     len: usize,
     marks: &mut [u16],
 ) -> Position
-    requires { ⌜ Measured (now v) (p .nodes) (p .definitions) × Measured (now w) (q .nodes) (q .definitions) × (k < nodeCount (now v) + nodeCount (now w)) × (markWords ≤ length (now marks)) ⌝ }
-    ensures { λ r. ⌜ ((b c ta fl ls : List ℕ) → view (r .place) (r .len) ta (now (marks .exit)) fl ls ≡ transition (pairGraph (now (v .entry)) b (now (w .entry)) c) (view (Starting k) len ta (now (marks .entry)) fl ls)) ⌝ }
+    requires { ⌜ Measured (now «first_words») (p .nodes) (p .definitions) × Measured (now «second_words») (q .nodes) (q .definitions) × (k < nodeCount (now «first_words») + nodeCount (now «second_words»)) × (markWords ≤ length (now marks)) ⌝ }
+    ensures { λ r. ⌜ ((b c ta fl ls : List ℕ) → view (r .place) (r .len) ta (now (marks .exit)) fl ls ≡ transition (pairGraph (now («first_words» .entry)) b (now («second_words» .entry)) c) (view (Starting k) len ta (now (marks .entry)) fl ls)) ⌝ }
     ensures kept { λ r. ⌜ r .len ≡ len ⌝ }
 {
     let n = p.nodes + q.nodes;
@@ -59,9 +68,9 @@ fn starting(
 
 // A transition of loop search k at the node x.
 fn searching(
-    v: &[u64],
+    first_words: &[u64],
     p: Counts,
-    w: &[u64],
+    second_words: &[u64],
     q: Counts,
     k: usize,
     x: usize,
@@ -73,17 +82,17 @@ fn searching(
     marks: &mut [u16],
     flag: &mut [usize],
 ) -> Position
-    requires ads { ⌜ Measured (now v) (p .nodes) (p .definitions) × Measured (now w) (q .nodes) (q .definitions) ⌝ }
-    requires place { ⌜ (x < 2048) × (top < 2048) × (k < nodeCount (now v) + nodeCount (now w)) × (high < 65535) × (low < 65536) ⌝ }
+    requires ads { ⌜ Measured (now «first_words») (p .nodes) (p .definitions) × Measured (now «second_words») (q .nodes) (q .definitions) ⌝ }
+    requires place { ⌜ (x < 2048) × (top < 2048) × (k < nodeCount (now «first_words») + nodeCount (now «second_words»)) × (high < 65535) × (low < 65536) ⌝ }
     requires room { ⌜ (2048 ≤ length (now target)) × (markWords ≤ length (now marks)) × (2048 ≤ length (now flag)) ⌝ }
-    ensures { λ r. ⌜ ((b c ls : List ℕ) → view (r .place) (r .len) (now (target .entry)) (now (marks .exit)) (now (flag .exit)) ls ≡ transition (pairGraph (now (v .entry)) b (now (w .entry)) c) (view (Searching k x top high low) len (now (target .entry)) (now (marks .entry)) (now (flag .entry)) ls)) ⌝ }
+    ensures { λ r. ⌜ ((b c ls : List ℕ) → view (r .place) (r .len) (now (target .entry)) (now (marks .exit)) (now (flag .exit)) ls ≡ transition (pairGraph (now («first_words» .entry)) b (now («second_words» .entry)) c) (view (Searching k x top high low) len (now (target .entry)) (now (marks .entry)) (now (flag .entry)) ls)) ⌝ }
     ensures kept { λ r. ⌜ r .len ≡ len ⌝ }
     ensures flags { λ r. ⌜ Flagged x (now (flag .entry)) (now (flag .exit)) ⌝ }
 {
     let i = marks::followed(marks, x);
-    if i < links::led_count(v, w, target, x) {
-        let y = links::led_to(v, w, target, x, i);
-        let refers = links::refers(v, w, x);
+    if i < links::led_count(first_words, second_words, target, x) {
+        let y = links::led_to(first_words, second_words, target, x, i);
+        let refers = links::refers(first_words, second_words, x);
         return marks::explore(k, x, top, high, low, y, i, refers, len, marks, flag);
     }
     marks::retreat(k, p.nodes + q.nodes, x, top, high, low, len, marks)
@@ -101,8 +110,8 @@ fn between(roots: &[usize], k: usize, len: usize, marks: &mut [u16]) -> Position
 
 // A transition of list search k at the node x.
 fn inside(
-    v: &[u64],
-    w: &[u64],
+    first_words: &[u64],
+    second_words: &[u64],
     k: usize,
     x: usize,
     len: usize,
@@ -111,14 +120,14 @@ fn inside(
     flag: &[usize],
     list: &mut [u64],
 ) -> Position
-    requires ads { ⌜ Formed (now v) × Formed (now w) × (x < 2048) × (k < 4) ⌝ }
+    requires ads { ⌜ Formed (now «first_words») × Formed (now «second_words») × (x < 2048) × (k < 4) ⌝ }
     requires room { ⌜ Roomy (now target) (now marks) (now flag) (now list) × (len < length (now list)) ⌝ }
-    ensures { λ r. ⌜ ((b c : List ℕ) → view (r .place) (r .len) (now (target .entry)) (now (marks .exit)) (now (flag .entry)) (now (list .exit)) ≡ transition (pairGraph (now (v .entry)) b (now (w .entry)) c) (view (Inside k x) len (now (target .entry)) (now (marks .entry)) (now (flag .entry)) (now (list .entry)))) ⌝ }
+    ensures { λ r. ⌜ ((b c : List ℕ) → view (r .place) (r .len) (now (target .entry)) (now (marks .exit)) (now (flag .entry)) (now (list .exit)) ≡ transition (pairGraph (now («first_words» .entry)) b (now («second_words» .entry)) c) (view (Inside k x) len (now (target .entry)) (now (marks .entry)) (now (flag .entry)) (now (list .entry)))) ⌝ }
     ensures room { λ r. ⌜ Grows len (r .len) (now (list .entry)) (now (list .exit)) ⌝ }
 {
     let i = marks::followed(marks, x);
-    if i < links::need_count(v, w, target, flag, x) {
-        let y = links::led_to(v, w, target, x, i);
+    if i < links::need_count(first_words, second_words, target, flag, x) {
+        let y = links::led_to(first_words, second_words, target, x, i);
         return marks::follow(k, x, y, i, len, marks);
     }
     let f = marks::entered_from(marks, x);
@@ -127,11 +136,11 @@ fn inside(
 
 // One transition, from any place and over any marks.
 pub fn transition(
-    v: &[u64],
-    b: &[u8],
+    first_words: &[u64],
+    first_bytes: &[u8],
     p: Counts,
-    w: &[u64],
-    c: &[u8],
+    second_words: &[u64],
+    second_bytes: &[u8],
     q: Counts,
     prints: &[u32],
     roots: &[usize],
@@ -141,24 +150,59 @@ pub fn transition(
     flag: &mut [usize],
     list: &mut [u64],
 ) -> Position
-    requires ads { ⌜ Measured (now v) (p .nodes) (p .definitions) × Measured (now w) (q .nodes) (q .definitions) × (now roots ≡ pairGraph (now v) (now b) (now w) (now c) .roots) × Fingerprints (now v) (now b) (now w) (now c) (now prints) ⌝ }
-    requires room { ⌜ Roomy (now target) (now marks) (now flag) (now list) × PlaceFits (now v) (now w) (length (now roots)) (s .len) (now list) (s .place) ⌝ }
-    ensures { λ r. ⌜ view (r .place) (r .len) (now (target .exit)) (now (marks .exit)) (now (flag .exit)) (now (list .exit)) ≡ transition (pairGraph (now (v .entry)) (now (b .entry)) (now (w .entry)) (now (c .entry))) (view (s .place) (s .len) (now (target .entry)) (now (marks .entry)) (now (flag .entry)) (now (list .entry))) ⌝ }
+    requires ads { ⌜ Measured (now «first_words») (p .nodes) (p .definitions) × Measured (now «second_words») (q .nodes) (q .definitions) × (now roots ≡ pairGraph (now «first_words») (now «first_bytes») (now «second_words») (now «second_bytes») .roots) × Fingerprints (now «first_words») (now «first_bytes») (now «second_words») (now «second_bytes») (now prints) ⌝ }
+    requires room { ⌜ Roomy (now target) (now marks) (now flag) (now list) × PlaceFits (now «first_words») (now «second_words») (length (now roots)) (s .len) (now list) (s .place) ⌝ }
+    ensures { λ r. ⌜ view (r .place) (r .len) (now (target .exit)) (now (marks .exit)) (now (flag .exit)) (now (list .exit)) ≡ transition (pairGraph (now («first_words» .entry)) (now («first_bytes» .entry)) (now («second_words» .entry)) (now («second_bytes» .entry))) (view (s .place) (s .len) (now (target .entry)) (now (marks .entry)) (now (flag .entry)) (now (list .entry))) ⌝ }
     ensures room { λ r. ⌜ Grows (s .len) (r .len) (now (list .entry)) (now (list .exit)) ⌝ }
     ensures flags { λ r. ⌜ FlaggedFrom (s .place) (now (flag .entry)) (now (flag .exit)) ⌝ }
 {
     let place = s.place;
     let len = s.len;
     match place {
-        Place::Resolving(i) => resolving(v, b, p, w, c, q, prints, i, len, target),
-        Place::Starting(k) => starting(v, p, w, q, k, len, marks),
+        Place::Resolving(i) => resolving(
+            first_words,
+            first_bytes,
+            p,
+            second_words,
+            second_bytes,
+            q,
+            prints,
+            i,
+            len,
+            target,
+        ),
+        Place::Starting(k) => starting(first_words, p, second_words, q, k, len, marks),
         Place::Searching(k, x, top, high, low) => {
-            searching(v, p, w, q, k, x, top, high, low, len, target, marks, flag)
+            searching(
+                first_words,
+                p,
+                second_words,
+                q,
+                k,
+                x,
+                top,
+                high,
+                low,
+                len,
+                target,
+                marks,
+                flag,
+            )
         }
         Place::Closing(k, x, top, high) => {
             marks::close(k, p.nodes + q.nodes, x, top, high, len, marks)
         }
         Place::Between(k) => between(roots, k, len, marks),
-        Place::Inside(k, x) => inside(v, w, k, x, len, target, marks, flag, list),
+        Place::Inside(k, x) => inside(
+            first_words,
+            second_words,
+            k,
+            x,
+            len,
+            target,
+            marks,
+            flag,
+            list,
+        ),
     }
 }

@@ -1,5 +1,4 @@
 // Evaluation: the step, which works out one node's value, and the run over the list.
-// v and b are the words and bytes of the first ad, w and c those of the second.
 ghost use mathlib.Core.Path.{_≡_};
 ghost use mathlib.Core.List.{List, map};
 ghost use Prim.Native.Nat.{ℕ, _+_, _-_, _≤_, _<_};
@@ -38,34 +37,34 @@ fn node_from(second: bool, words: &[u64], i: usize) -> Node
 }
 
 // The node x.
-fn node_at(v: &[u64], w: &[u64], x: usize) -> Node
-    requires { ⌜ (x < 2048) × (adWords ≤ length (now v)) × (adWords ≤ length (now w)) ⌝ }
-    ensures { λ r. ⌜ r ≡ nodeAt (now (v .entry)) (now (w .entry)) x ⌝ }
+fn node_at(first_words: &[u64], second_words: &[u64], x: usize) -> Node
+    requires { ⌜ (x < 2048) × (adWords ≤ length (now «first_words»)) × (adWords ≤ length (now «second_words»)) ⌝ }
+    ensures { λ r. ⌜ r ≡ nodeAt (now («first_words» .entry)) (now («second_words» .entry)) x ⌝ }
 {
     if x < syntax::NODES {
-        return node_from(false, v, x);
+        return node_from(false, first_words, x);
     }
-    node_from(true, w, x - syntax::NODES)
+    node_from(true, second_words, x - syntax::NODES)
 }
 
 // The value that the table holds for need i of the node x, by its marks.
 fn need_value(
-    v: &[u64],
-    w: &[u64],
+    first_words: &[u64],
+    second_words: &[u64],
     target: &[usize],
     flag: &[usize],
     table: &[u64],
     x: usize,
     i: usize,
 ) -> Value
-    requires { ⌜ AtStep (now v) (now w) (now target) (now flag) x ⌝ }
-    ensures { λ r. ⌜ ((b c : List ℕ) → r ≡ valueIn (map (λ y. seen (slotAt (now (table .entry)) y)) (needed (pairGraph (now (v .entry)) b (now (w .entry)) c) (now (target .entry)) (now (flag .entry)) x)) i) ⌝ }
+    requires { ⌜ AtStep (now «first_words») (now «second_words») (now target) (now flag) x ⌝ }
+    ensures { λ r. ⌜ ((b c : List ℕ) → r ≡ valueIn (map (λ y. seen (slotAt (now (table .entry)) y)) (needed (pairGraph (now («first_words» .entry)) b (now («second_words» .entry)) c) (now (target .entry)) (now (flag .entry)) x)) i) ⌝ }
 {
     if flag[x] == 1 {
         return Value::Undefined;
     }
-    if i < links::led_count(v, w, target, x) {
-        let y = links::led_to(v, w, target, x, i);
+    if i < links::led_count(first_words, second_words, target, x) {
+        let y = links::led_to(first_words, second_words, target, x, i);
         return value_in(table, y);
     }
     Value::Undefined
@@ -73,23 +72,23 @@ fn need_value(
 
 // THE STEP: the slot of the node x becomes what its rule makes of the slots of its needs, whatever they hold.
 pub fn step(
-    v: &[u64],
-    b: &[u8],
-    w: &[u64],
-    c: &[u8],
+    first_words: &[u64],
+    first_bytes: &[u8],
+    second_words: &[u64],
+    second_bytes: &[u8],
     target: &[usize],
     flag: &[usize],
     table: &mut [u64],
     x: usize,
 )
-    requires { ⌜ AtStep (now v) (now w) (now target) (now flag) x ⌝ }
-    ensures { λ _. ⌜ Stepped (needed (pairGraph (now (v .entry)) (now (b .entry)) (now (w .entry)) (now (c .entry))) (now (target .entry)) (now (flag .entry))) (ruleAt (now (v .entry)) (now (b .entry)) (now (w .entry)) (now (c .entry))) x (now (table .entry)) (now (table .exit)) ⌝ }
+    requires { ⌜ AtStep (now «first_words») (now «second_words») (now target) (now flag) x ⌝ }
+    ensures { λ _. ⌜ Stepped (needed (pairGraph (now («first_words» .entry)) (now («first_bytes» .entry)) (now («second_words» .entry)) (now («second_bytes» .entry))) (now (target .entry)) (now (flag .entry))) (ruleAt (now («first_words» .entry)) (now («first_bytes» .entry)) (now («second_words» .entry)) (now («second_bytes» .entry))) x (now (table .entry)) (now (table .exit)) ⌝ }
 {
-    let p = need_value(v, w, target, flag, table, x, 0);
-    let q = need_value(v, w, target, flag, table, x, 1);
-    let r = need_value(v, w, target, flag, table, x, 2);
-    let node = node_at(v, w, x);
-    let value = nodes::apply(b, c, node, p, q, r);
+    let p = need_value(first_words, second_words, target, flag, table, x, 0);
+    let q = need_value(first_words, second_words, target, flag, table, x, 1);
+    let r = need_value(first_words, second_words, target, flag, table, x, 2);
+    let node = node_at(first_words, second_words, x);
+    let value = nodes::apply(first_bytes, second_bytes, node, p, q, r);
     slots::store(table, x, Slot::Held(value));
 }
 
@@ -103,10 +102,10 @@ fn entry(list: &[u64], i: usize) -> usize
 
 // THE RUN: from entry k on, one step for each entry until the budget or the list of len entries ends; it counts the steps.
 pub fn run(
-    v: &[u64],
-    b: &[u8],
-    w: &[u64],
-    c: &[u8],
+    first_words: &[u64],
+    first_bytes: &[u8],
+    second_words: &[u64],
+    second_bytes: &[u8],
     target: &[usize],
     flag: &[usize],
     list: &[u64],
@@ -115,8 +114,8 @@ pub fn run(
     budget: u16,
     table: &mut [u64],
 ) -> usize
-    requires { ⌜ AtRun (now v) (now w) (now target) (now flag) (now list) (now table) len ⌝ }
-    ensures { λ r. ⌜ RunTo (needed (pairGraph (now (v .entry)) (now (b .entry)) (now (w .entry)) (now (c .entry))) (now (target .entry)) (now (flag .entry))) (ruleAt (now (v .entry)) (now (b .entry)) (now (w .entry)) (now (c .entry))) (entries len (now (list .entry))) k budget (now (table .entry)) (now (table .exit)) r ⌝ }
+    requires { ⌜ AtRun (now «first_words») (now «second_words») (now target) (now flag) (now list) (now table) len ⌝ }
+    ensures { λ r. ⌜ RunTo (needed (pairGraph (now («first_words» .entry)) (now («first_bytes» .entry)) (now («second_words» .entry)) (now («second_bytes» .entry))) (now (target .entry)) (now (flag .entry))) (ruleAt (now («first_words» .entry)) (now («first_bytes» .entry)) (now («second_words» .entry)) (now («second_bytes» .entry))) (entries len (now (list .entry))) k budget (now (table .entry)) (now (table .exit)) r ⌝ }
 {
     if len <= k {
         return 0;
@@ -128,7 +127,16 @@ pub fn run(
             return n;
         }
         let x = entry(list, k + n);
-        step(v, b, w, c, target, flag, table, x);
+        step(
+            first_words,
+            first_bytes,
+            second_words,
+            second_bytes,
+            target,
+            flag,
+            table,
+            x,
+        );
         n += 1;
     }
     n

@@ -1,5 +1,4 @@
-// The graph of two stored ads: its nodes, links and roots by their numbers. v and b are the words and bytes of the first ad, w and
-// c those of the second.
+// The graph of two stored ads: its nodes, links and roots by their numbers.
 mod lookup;
 
 ghost use mathlib.Core.Path.{_≡_};
@@ -37,34 +36,34 @@ pub fn measure(words: &[u64]) -> Counts
 }
 
 // The kind of the node x.
-fn kind_of(v: &[u64], w: &[u64], x: usize) -> u64
-    requires { ⌜ (x < 2048) × (adWords ≤ length (now v)) × (adWords ≤ length (now w)) ⌝ }
-    ensures { λ r. ⌜ r ≡ both (kindAt (now (v .entry))) (kindAt (now (w .entry))) x ⌝ }
+fn kind_of(first_words: &[u64], second_words: &[u64], x: usize) -> u64
+    requires { ⌜ (x < 2048) × (adWords ≤ length (now «first_words»)) × (adWords ≤ length (now «second_words»)) ⌝ }
+    ensures { λ r. ⌜ r ≡ both (kindAt (now («first_words» .entry))) (kindAt (now («second_words» .entry))) x ⌝ }
 {
     if x < syntax::NODES {
-        return ad::kind(v, x);
+        return ad::kind(first_words, x);
     }
-    ad::kind(w, x - syntax::NODES)
+    ad::kind(second_words, x - syntax::NODES)
 }
 
 // The number of the node x's operand i.
-fn operand_of(v: &[u64], w: &[u64], x: usize, i: usize) -> usize
-    requires { ⌜ (x < 2048) × (i < 3) × (adWords ≤ length (now v)) × (adWords ≤ length (now w)) × (maxNodes ≤ x → operandAt (now w) (x - maxNodes) i < maxNodes) ⌝ }
-    ensures { λ r. ⌜ r ≡ both (λ j. operandAt (now (v .entry)) j i) (λ j. maxNodes + operandAt (now (w .entry)) j i) x ⌝ }
+fn operand_of(first_words: &[u64], second_words: &[u64], x: usize, i: usize) -> usize
+    requires { ⌜ (x < 2048) × (i < 3) × (adWords ≤ length (now «first_words»)) × (adWords ≤ length (now «second_words»)) × (maxNodes ≤ x → operandAt (now «second_words») (x - maxNodes) i < maxNodes) ⌝ }
+    ensures { λ r. ⌜ r ≡ both (λ j. operandAt (now («first_words» .entry)) j i) (λ j. maxNodes + operandAt (now («second_words» .entry)) j i) x ⌝ }
 {
     if x < syntax::NODES {
-        return ad::operand(v, x, i);
+        return ad::operand(first_words, x, i);
     }
-    syntax::NODES + ad::operand(w, x - syntax::NODES, i)
+    syntax::NODES + ad::operand(second_words, x - syntax::NODES, i)
 }
 
 // How many nodes x leads to, by its marks; a slot that is no node leads nowhere.
-pub fn led_count(v: &[u64], w: &[u64], target: &[usize], x: usize) -> usize
-    requires { ⌜ Formed (now v) × Formed (now w) × (x < 2048) × (x < length (now target)) ⌝ }
-    ensures { λ r. ⌜ ((b c : List ℕ) → r ≡ length (led (pairGraph (now (v .entry)) b (now (w .entry)) c) (numbers (now (target .entry))) x)) ⌝ }
+pub fn led_count(first_words: &[u64], second_words: &[u64], target: &[usize], x: usize) -> usize
+    requires { ⌜ Formed (now «first_words») × Formed (now «second_words») × (x < 2048) × (x < length (now target)) ⌝ }
+    ensures { λ r. ⌜ ((b c : List ℕ) → r ≡ length (led (pairGraph (now («first_words» .entry)) b (now («second_words» .entry)) c) (numbers (now (target .entry))) x)) ⌝ }
     ensures few { λ r. ⌜ r ≤ 3 ⌝ }
 {
-    let kind = kind_of(v, w, x);
+    let kind = kind_of(first_words, second_words, x);
     if ad::is_reference(kind) {
         if target[x] == 0 {
             return 0;
@@ -78,36 +77,48 @@ pub fn led_count(v: &[u64], w: &[u64], target: &[usize], x: usize) -> usize
 }
 
 // The node i of those that x leads to.
-pub fn led_to(v: &[u64], w: &[u64], target: &[usize], x: usize, i: usize) -> usize
-    requires { ⌜ Formed (now v) × Formed (now w) × (x < 2048) × (x < length (now target)) × ((b c : List ℕ) → i < length (led (pairGraph (now v) b (now w) c) (numbers (now target)) x)) ⌝ }
-    ensures { λ r. ⌜ ((b c : List ℕ) → r ≡ getD (led (pairGraph (now (v .entry)) b (now (w .entry)) c) (numbers (now (target .entry))) x) i 0) ⌝ }
+pub fn led_to(
+    first_words: &[u64],
+    second_words: &[u64],
+    target: &[usize],
+    x: usize,
+    i: usize,
+) -> usize
+    requires { ⌜ Formed (now «first_words») × Formed (now «second_words») × (x < 2048) × (x < length (now target)) × ((b c : List ℕ) → i < length (led (pairGraph (now «first_words») b (now «second_words») c) (numbers (now target)) x)) ⌝ }
+    ensures { λ r. ⌜ ((b c : List ℕ) → r ≡ getD (led (pairGraph (now («first_words» .entry)) b (now («second_words» .entry)) c) (numbers (now (target .entry))) x) i 0) ⌝ }
     ensures small { λ r. ⌜ r < 2048 ⌝ }
 {
-    let kind = kind_of(v, w, x);
+    let kind = kind_of(first_words, second_words, x);
     if ad::is_reference(kind) {
         return target[x] - 1;
     }
-    operand_of(v, w, x, i)
+    operand_of(first_words, second_words, x, i)
 }
 
 // How many nodes x needs, by its marks: a circular reference needs none.
-pub fn need_count(v: &[u64], w: &[u64], target: &[usize], flag: &[usize], x: usize) -> usize
-    requires { ⌜ Formed (now v) × Formed (now w) × (x < 2048) × (x < length (now target)) × (x < length (now flag)) ⌝ }
-    ensures { λ r. ⌜ ((b c : List ℕ) → r ≡ length (needed (pairGraph (now (v .entry)) b (now (w .entry)) c) (numbers (now (target .entry))) (raised (now (flag .entry))) x)) ⌝ }
+pub fn need_count(
+    first_words: &[u64],
+    second_words: &[u64],
+    target: &[usize],
+    flag: &[usize],
+    x: usize,
+) -> usize
+    requires { ⌜ Formed (now «first_words») × Formed (now «second_words») × (x < 2048) × (x < length (now target)) × (x < length (now flag)) ⌝ }
+    ensures { λ r. ⌜ ((b c : List ℕ) → r ≡ length (needed (pairGraph (now («first_words» .entry)) b (now («second_words» .entry)) c) (numbers (now (target .entry))) (raised (now (flag .entry))) x)) ⌝ }
     ensures few { λ r. ⌜ r ≤ 3 ⌝ }
 {
     if flag[x] == 1 {
         return 0;
     }
-    led_count(v, w, target, x)
+    led_count(first_words, second_words, target, x)
 }
 
 // Whether the node x is a reference.
-pub fn refers(v: &[u64], w: &[u64], x: usize) -> bool
-    requires { ⌜ Formed (now v) × Formed (now w) × (x < 2048) ⌝ }
-    ensures { λ r. ⌜ ((b c : List ℕ) → r ≡ pairGraph (now (v .entry)) b (now (w .entry)) c .ref x) ⌝ }
+pub fn refers(first_words: &[u64], second_words: &[u64], x: usize) -> bool
+    requires { ⌜ Formed (now «first_words») × Formed (now «second_words») × (x < 2048) ⌝ }
+    ensures { λ r. ⌜ ((b c : List ℕ) → r ≡ pairGraph (now («first_words» .entry)) b (now («second_words» .entry)) c .ref x) ⌝ }
 {
-    let kind = kind_of(v, w, x);
+    let kind = kind_of(first_words, second_words, x);
     ad::is_reference(kind)
 }
 
@@ -163,40 +174,60 @@ fn found_from(
 
 // What is to be recorded of the node x.
 pub fn found_at(
-    v: &[u64],
-    b: &[u8],
+    first_words: &[u64],
+    first_bytes: &[u8],
     d: usize,
-    w: &[u64],
-    c: &[u8],
+    second_words: &[u64],
+    second_bytes: &[u8],
     e: usize,
     x: usize,
     prints: &[u32],
 ) -> usize
-    requires ads { ⌜ Measured (now v) (nodeCount (now v)) d × Measured (now w) (nodeCount (now w)) e × Stands (now v) (now w) x ⌝ }
-    requires prints { ⌜ Fingerprints (now v) (now b) (now w) (now c) (now prints) ⌝ }
-    ensures { λ r. ⌜ r ≡ cond (pairGraph (now (v .entry)) (now (b .entry)) (now (w .entry)) (now (c .entry)) .ref x) (marked (pairGraph (now (v .entry)) (now (b .entry)) (now (w .entry)) (now (c .entry)) .links x)) 0 ⌝ }
+    requires ads { ⌜ Measured (now «first_words») (nodeCount (now «first_words»)) d × Measured (now «second_words») (nodeCount (now «second_words»)) e × Stands (now «first_words») (now «second_words») x ⌝ }
+    requires prints { ⌜ Fingerprints (now «first_words») (now «first_bytes») (now «second_words») (now «second_bytes») (now prints) ⌝ }
+    ensures { λ r. ⌜ r ≡ cond (pairGraph (now («first_words» .entry)) (now («first_bytes» .entry)) (now («second_words» .entry)) (now («second_bytes» .entry)) .ref x) (marked (pairGraph (now («first_words» .entry)) (now («first_bytes» .entry)) (now («second_words» .entry)) (now («second_bytes» .entry)) .links x)) 0 ⌝ }
 {
     if x < syntax::NODES {
-        return found_from(v, b, d, w, c, e, x, false, prints);
+        return found_from(
+            first_words,
+            first_bytes,
+            d,
+            second_words,
+            second_bytes,
+            e,
+            x,
+            false,
+            prints,
+        );
     }
-    found_from(w, c, e, v, b, d, x - syntax::NODES, true, prints)
+    found_from(
+        second_words,
+        second_bytes,
+        e,
+        first_words,
+        first_bytes,
+        d,
+        x - syntax::NODES,
+        true,
+        prints,
+    )
 }
 
 // The fingerprints of the names of all definitions.
 pub fn fingerprints(
-    v: &[u64],
-    b: &[u8],
+    first_words: &[u64],
+    first_bytes: &[u8],
     p: Counts,
-    w: &[u64],
-    c: &[u8],
+    second_words: &[u64],
+    second_bytes: &[u8],
     q: Counts,
     prints: &mut [u32],
 )
-    requires { ⌜ Measured (now v) (p .nodes) (p .definitions) × Measured (now w) (q .nodes) (q .definitions) × (512 ≤ length (now prints)) ⌝ }
-    ensures { λ _. ⌜ Fingerprints (now (v .entry)) (now (b .entry)) (now (w .entry)) (now (c .entry)) (now (prints .exit)) ⌝ }
+    requires { ⌜ Measured (now «first_words») (p .nodes) (p .definitions) × Measured (now «second_words») (q .nodes) (q .definitions) × (512 ≤ length (now prints)) ⌝ }
+    ensures { λ _. ⌜ Fingerprints (now («first_words» .entry)) (now («first_bytes» .entry)) (now («second_words» .entry)) (now («second_bytes» .entry)) (now (prints .exit)) ⌝ }
 {
-    lookup::fill(v, b, p.definitions, false, prints);
-    lookup::fill(w, c, q.definitions, true, prints);
+    lookup::fill(first_words, first_bytes, p.definitions, false, prints);
+    lookup::fill(second_words, second_bytes, q.definitions, true, prints);
 }
 
 // The roots of the first ad's Requirements, the second's, the first's Rank, the second's: each one more than its number, 0 for none.
@@ -208,24 +239,24 @@ pub struct Roots {
 }
 
 pub fn find_roots(
-    v: &[u64],
-    b: &[u8],
+    first_words: &[u64],
+    first_bytes: &[u8],
     p: Counts,
-    w: &[u64],
-    c: &[u8],
+    second_words: &[u64],
+    second_bytes: &[u8],
     q: Counts,
     prints: &[u32],
 ) -> Roots
-    requires ads { ⌜ Measured (now v) (p .nodes) (p .definitions) × Measured (now w) (q .nodes) (q .definitions) ⌝ }
-    requires prints { ⌜ Fingerprints (now v) (now b) (now w) (now c) (now prints) ⌝ }
-    ensures { λ r. ⌜ RootMarks (now (v .entry)) (now (b .entry)) (now (w .entry)) (now (c .entry)) (r .«first_requirements») (r .«second_requirements») (r .«first_rank») (r .«second_rank») ⌝ }
+    requires ads { ⌜ Measured (now «first_words») (p .nodes) (p .definitions) × Measured (now «second_words») (q .nodes) (q .definitions) ⌝ }
+    requires prints { ⌜ Fingerprints (now «first_words») (now «first_bytes») (now «second_words») (now «second_bytes») (now prints) ⌝ }
+    ensures { λ r. ⌜ RootMarks (now («first_words» .entry)) (now («first_bytes» .entry)) (now («second_words» .entry)) (now («second_bytes» .entry)) (r .«first_requirements») (r .«second_requirements») (r .«first_rank») (r .«second_rank») ⌝ }
 {
     let d = p.definitions;
     let e = q.definitions;
-    let i = lookup::find_name(v, b, d, b"Requirements", false, prints);
-    let j = lookup::find_name(w, c, e, b"Requirements", true, prints);
-    let k = lookup::find_name(v, b, d, b"Rank", false, prints);
-    let l = lookup::find_name(w, c, e, b"Rank", true, prints);
+    let i = lookup::find_name(first_words, first_bytes, d, b"Requirements", false, prints);
+    let j = lookup::find_name(second_words, second_bytes, e, b"Requirements", true, prints);
+    let k = lookup::find_name(first_words, first_bytes, d, b"Rank", false, prints);
+    let l = lookup::find_name(second_words, second_bytes, e, b"Rank", true, prints);
     Roots {
         first_requirements: i,
         second_requirements: j,

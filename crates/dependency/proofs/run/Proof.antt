@@ -31,7 +31,7 @@ loop-holds c =
     let e-first-position = c .first-position in
     let s = c .before .before .before .before .before .before .before .before .before .before
     .before .before .before in
-    turn-first (now (s .args .b)) (now (s .args .c)) (s .pre .0 .0) (s .pre .0 .1) (s .pre .0 .2)
+    turn-first (now (s .args .first-bytes)) (now (s .args .second-bytes)) (s .pre .0 .0) (s .pre .0 .1) (s .pre .0 .2)
     (s .pre .1 .0) (s .pre .1 .1) refl (e-first-position .ensures .0) (e-first-position .ensures .1)
 
 same-length : tie.Need-same-length Inv-loop μ-loop

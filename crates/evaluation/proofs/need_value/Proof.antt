@@ -13,7 +13,7 @@ use Rattle.evaluation.proofs.need_value.Tie as tie
 returns : tie.Need-returns
 returns c =
     let args = c .before .before .before .before .before .before .before .args in
-    λ b d. need-circular (pairGraph (now (args .v)) b (now (args .w)) d) (now (args .target))
+    λ b d. need-circular (pairGraph (now (args .first-words)) b (now (args .second-words)) d) (now (args .target))
     (now (args .flag)) (args .x) (args .i) (λ y. seen (slotAt (now (args .table)) y))
     (c .if1 .taken)
 
@@ -22,7 +22,7 @@ led-count-requires c κs =
     let start = c .before .before .before .before .before .before .before in (
       start .pre .first-formed,
       start .pre .second-formed,
-      stands-small (now (start .args .v)) (now (start .args .w)) (start .args .x)
+      stands-small (now (start .args .first-words)) (now (start .args .second-words)) (start .args .x)
           (start .pre .node),
       start .pre .target-room,
     )
@@ -32,7 +32,7 @@ led-to-requires c κs =
     let start = c .before .before .before .before .before .before .before .before .before in (
       start .pre .first-formed,
       start .pre .second-formed,
-      stands-small (now (start .args .v)) (now (start .args .w)) (start .args .x)
+      stands-small (now (start .args .first-words)) (now (start .args .second-words)) (start .args .x)
           (start .pre .node),
       start .pre .target-room,
       λ b d. subst (λ (n : ℕ). start .args .i < n) (c .before .led-count .ensures .0 b d)
@@ -43,7 +43,7 @@ returns-2 : tie.Need-returns-2
 returns-2 c =
     let b3 = c .before .before .before in
     let args = b3 .before .before .before .before .before .before .before .before .args in
-    λ b d. need-found (pairGraph (now (args .v)) b (now (args .w)) d) (now (args .target))
+    λ b d. need-found (pairGraph (now (args .first-words)) b (now (args .second-words)) d) (now (args .target))
     (now (args .flag)) (args .x) (args .i) (λ y. seen (slotAt (now (args .table)) y))
     (b3 .before .if1 .left) (subst (λ (n : ℕ). args .i < n) (b3 .led-count .ensures .0 b d)
     (c .before .before .if2 .taken)) (c .before .led-to .ensures .0 b d) (c .value-in .ensures)
@@ -51,7 +51,7 @@ returns-2 c =
 returns-3 : tie.Need-returns-3
 returns-3 c =
     let args = c .before .before .before .before .before .before .before .before .before .args in
-    λ b d. need-beyond (pairGraph (now (args .v)) b (now (args .w)) d) (now (args .target))
+    λ b d. need-beyond (pairGraph (now (args .first-words)) b (now (args .second-words)) d) (now (args .target))
     (now (args .flag)) (args .x) (args .i) (λ y. seen (slotAt (now (args .table)) y))
     (c .before .before .if1 .left) (subst (λ (n : ℕ). n ≤ args .i)
     (c .before .led-count .ensures .0 b d) (search needs))

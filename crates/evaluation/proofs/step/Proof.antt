@@ -13,7 +13,7 @@ node-at-requires : tie.Need-node-at-requires
 node-at-requires c κs =
     let start = c .before .before .before .before .before .before .before .before .before .before
     .before .before .before in (
-      stands-small (now (start .args .v)) (now (start .args .w)) (start .args .x)
+      stands-small (now (start .args .first-words)) (now (start .args .second-words)) (start .args .x)
           (start .pre .node),
       start .pre .first-formed .words-room,
       start .pre .second-formed .words-room,
@@ -25,13 +25,13 @@ returns c =
     let b8 = b4 .before .before .before .before in
     let args = b8 .before .before .before .before .before .before .before .before .before .before
     .before .args in
-    let b = args .b in
-    let c' = args .c in
-    step-stored (needed (pairGraph (now (args .v)) (now b) (now (args .w)) (now c'))
+    let b = args .first-bytes in
+    let c' = args .second-bytes in
+    step-stored (needed (pairGraph (now (args .first-words)) (now b) (now (args .second-words)) (now c'))
     (now (args .target)) (now (args .flag)))
-    (ruleAt (now (args .v)) (now b) (now (args .w)) (now c')) (rule-of (now (args .v)) (now b)
-    (now (args .w)) (now c') (args .x) (map (λ y. seen (slotAt (now (args .table)) y)) (needed
-    (pairGraph (now (args .v)) (now b) (now (args .w)) (now c')) (now (args .target))
+    (ruleAt (now (args .first-words)) (now b) (now (args .second-words)) (now c')) (rule-of (now (args .first-words)) (now b)
+    (now (args .second-words)) (now c') (args .x) (map (λ y. seen (slotAt (now (args .table)) y)) (needed
+    (pairGraph (now (args .first-words)) (now b) (now (args .second-words)) (now c')) (now (args .target))
     (now (args .flag)) (args .x))) (b4 .apply .ensures) (b4 .before .node-at .ensures)
     (b8 .before .before .need-value .ensures (now b) (now c'))
     (b8 .need-value2 .ensures (now b) (now c'))

@@ -7,7 +7,7 @@ use Rattle.links.proofs.operand_of.Tie as tie
 returns : tie.Need-returns
 returns c =
     let args = c .before .before .before .before .args in
-    operand-first (now (args .v)) (now (args .w)) (args .x) (args .i) (c .before .if1 .taken)
+    operand-first (now (args .first-words)) (now (args .second-words)) (args .x) (args .i) (c .before .if1 .taken)
     (c .operand .ensures)
 
 add-result : tie.Need-add-result
@@ -16,7 +16,7 @@ add-result c = let h = c .before .before .before .before .pre .4 (search needs) 
 returns-2 : tie.Need-returns-2
 returns-2 c =
     let args = c .before .before .before .before .args in
-    operand-second (now (args .v)) (now (args .w)) (args .x) (args .i) (search needs)
+    operand-second (now (args .first-words)) (now (args .second-words)) (args .x) (args .i) (search needs)
     (c .operand2 .ensures)
 
 pub operand-of-spec : {M : Type 1} → statement M

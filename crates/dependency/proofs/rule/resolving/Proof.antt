@@ -41,7 +41,7 @@ resolve-requires c κs =
     let a = s .pre .0 .0 .nodes-are in
     let b = s .pre .0 .1 .nodes-are in (
       omega arith,
-      stands-in (now (s .args .v)) (now (s .args .w)) _
+      stands-in (now (s .args .first-words)) (now (s .args .second-words)) _
           (nth-stands (s .pre .0 .0) (s .pre .0 .1) d (e-node-at .ensures)) (s .pre .1 .1),
     )
 

@@ -25,7 +25,7 @@ seek-requires c κs =
     let e-node-at = c .before .node-at in
     let s = c .before .before .before .before .before .before .before in (
       let h = nodes-few (s .pre .0) (s .pre .1) in let j = s .pre .2 in omega arith,
-      stands-small (now (s .args .v)) (now (s .args .w)) _
+      stands-small (now (s .args .first-words)) (now (s .args .second-words)) _
           (nth-stands (s .pre .0) (s .pre .1) (s .pre .2) (e-node-at .ensures)),
       s .pre .3,
     )
