@@ -12,8 +12,9 @@ ghost use Rattle.c_ads.specs.Reading.{Reported};
 ghost use Rattle.c_ads.specs.Checking.{CheckReported};
 ghost use Rattle.c_ads.specs.Printing.{PrintReported};
 ghost use Rattle.c_ads.specs.Inspecting.{positionNumbers, holderNumbers};
-ghost use Rattle.c_matching.specs.Matching.{MatchReported, OrderReported};
-ghost use Rattle.c_matching.specs.Showing.{slotNumbers, StringPlaced};
+ghost use Rattle.c_matching.specs.Matching.{MatchReported};
+ghost use Rattle.c_ordering.specs.Ordering.{OrderReported};
+ghost use Rattle.c_results.specs.Showing.{slotNumbers, StringPlaced};
 ghost use Rattle.results.specs.Results.{shownAt};
 ghost use Rattle.inspection.specs.Inspection.{nodeText, holder};
 ghost use Rattle.syntax.specs.Print.{printedAd};
@@ -144,7 +145,7 @@ pub extern "C" fn classad_dependencies(
 )
     ensures { λ _. ⌜ OrderReported (now («first_words» .entry)) (now («first_bytes» .entry)) (now («second_words» .entry)) (now («second_bytes» .entry)) (now (flags .entry)) (now (list .entry)) (now (flags .exit)) (now (list .exit)) (now (answer .exit)) ⌝ }
 {
-    c_matching::dependencies(
+    c_ordering::dependencies(
         first_words,
         first_bytes,
         second_words,
@@ -160,7 +161,7 @@ pub extern "C" fn classad_dependencies(
 pub extern "C" fn classad_value(table: &[u64], second: u64, node: usize, answer: &mut [u64; 4])
     ensures { λ _. ⌜ now (answer .exit) ≡ slotNumbers (shownAt (now (table .entry)) (not (eqb second 0)) node) ⌝ }
 {
-    c_matching::value(table, second, node, answer);
+    c_results::value(table, second, node, answer);
 }
 
 // Where the bytes of a String value begin in its ad's bytes, and how many there are.
@@ -175,7 +176,7 @@ pub extern "C" fn classad_string<'a>(
 )
     ensures { λ _. ⌜ StringPlaced (now (first .entry)) (now (second .entry)) (not (eqb side 0)) offset length (now (answer .exit)) ⌝ }
 {
-    c_matching::string(first, second, side, offset, length, answer);
+    c_results::string(first, second, side, offset, length, answer);
 }
 
 // The definition that a node belongs to, as four numbers: 1, its number, and its name's offset and length; zeros where there is none.

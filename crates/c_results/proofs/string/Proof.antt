@@ -1,9 +1,9 @@
--- `c_matching::string` meets its contract. Assumes nothing.
+-- `c_results::string` meets its contract. Assumes nothing.
 use mathlib.Core.Path.{refl}
-use Rattle.c_matching.proofs.Inspected.{placed}
+use Rattle.c_results.proofs.Inspected.{placed}
 use borrow.Author.Needs.{needs}
-use Rattle.c_matching.proofs.string.Statement.{statement}
-use Rattle.c_matching.proofs.string.Tie as tie
+use Rattle.c_results.proofs.string.Statement.{statement}
+use Rattle.c_results.proofs.string.Tie as tie
 
 returns : tie.Need-returns
 returns c =

@@ -1,7 +1,7 @@
--- `c_matching::side_length` meets its contract. Assumes nothing.
+-- `c_results::side_length` meets its contract. Assumes nothing.
 use mathlib.Core.Path.{refl}
-use Rattle.c_matching.proofs.side_length.Statement.{statement}
-use Rattle.c_matching.proofs.side_length.Tie as tie
+use Rattle.c_results.proofs.side_length.Statement.{statement}
+use Rattle.c_results.proofs.side_length.Tie as tie
 
 returns : tie.Need-returns
 returns c = rw (c .if1 .taken) refl

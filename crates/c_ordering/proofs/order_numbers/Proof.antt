@@ -1,6 +1,6 @@
 use borrow.Author.Needs.{needs}
-use Rattle.c_matching.proofs.order_numbers.Statement.{statement}
-use Rattle.c_matching.proofs.order_numbers.Tie as tie
+use Rattle.c_ordering.proofs.order_numbers.Statement.{statement}
+use Rattle.c_ordering.proofs.order_numbers.Tie as tie
 
 returns : tie.Need-returns
 returns c = rw (c .before .answer .given .1)

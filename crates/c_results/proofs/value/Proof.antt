@@ -1,9 +1,9 @@
--- `c_matching::value` meets its contract. Assumes nothing.
+-- `c_results::value` meets its contract. Assumes nothing.
 use mathlib.Core.Path.{_∙_, ap}
-use Rattle.c_matching.specs.Showing.{slotNumbers}
+use Rattle.c_results.specs.Showing.{slotNumbers}
 use borrow.Author.Needs.{needs}
-use Rattle.c_matching.proofs.value.Statement.{statement}
-use Rattle.c_matching.proofs.value.Tie as tie
+use Rattle.c_results.proofs.value.Statement.{statement}
+use Rattle.c_results.proofs.value.Tie as tie
 
 returns : tie.Need-returns
 returns c = c .slot-numbers .ensures ∙ ap slotNumbers (c .before .value-at .ensures)

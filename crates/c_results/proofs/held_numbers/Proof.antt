@@ -1,8 +1,8 @@
--- `c_matching::held_numbers` meets its contract. Assumes nothing.
+-- `c_results::held_numbers` meets its contract. Assumes nothing.
 use mathlib.Core.Path.{refl}
 use borrow.Author.Needs.{needs}
-use Rattle.c_matching.proofs.held_numbers.Statement.{statement}
-use Rattle.c_matching.proofs.held_numbers.Tie as tie
+use Rattle.c_results.proofs.held_numbers.Statement.{statement}
+use Rattle.c_results.proofs.held_numbers.Tie as tie
 
 returns-3 : tie.Need-returns-3
 returns-3 c = rw (c .before .before .v .given .1, c .flag .ensures) refl

@@ -9,7 +9,7 @@ use lib.ListN.{length, take, drop, length-drop}
 use lib.Dec.{leb}
 use borrow.Author.Tests.{leb-true, leb-false}
 use Rattle.values.specs.Values.{bytesAt}
-use Rattle.c_matching.specs.Showing.{StringPlaced}
+use Rattle.c_results.specs.Showing.{StringPlaced}
 
 take-own : (n : ℕ) (l : List ℕ) → take (length (take n l)) l ≡ take n l
 take-own zero l = refl
