@@ -1,23 +1,16 @@
 -- What the functions over a stored ad give, over plain variables. Assumes nothing.
 use Prim.Native.Nat.{ℕ, zero, suc, _+_, _-_, _≤_, _<_}
 use native.Mathlib.Omega.{arith}
-use native.Mathlib.Nat.{le-of-eq}
 use native.Mathlib.Numerals.{add-one}
-use mathlib.Core.Path.{_≡_, refl, sym, _∙_, ap}
+use mathlib.Core.Path.{_≡_, refl, ap}
 use mathlib.Core.Bool.{true, false}
-use mathlib.Core.List.{List, [], _++_, append-nil}
-use lib.ListN.{length, getD, set, take, drop, replicate, drop-of-length-le}
-use lib.Seq.{sets, slice, take-all, take-nil}
+use mathlib.Core.List.{List, _++_, append-nil}
+use lib.ListN.{length, getD, set, drop, replicate, drop-of-length-le}
+use lib.Seq.{sets, slice}
 use Rattle.text.specs.Strings.{sameName}
 use Rattle.text.specs.Parts.{slice-one, slice-back}
 use Rattle.ad.specs.Stored.{offsetAt, lengthAt, bytesAt}
 use Rattle.ad.specs.Inner.Names.{definedIn}
-
-pub cut-none : (n k : ℕ) → _≡_ {A = List ℕ} (take n []) (take k [])
-cut-none n k = take-nil n ∙ sym (take-nil k)
-
-pub cut-all : (l : List ℕ) (n k : ℕ) → length l ≡ n → n ≤ k → take n l ≡ take k l
-cut-all l n k e h = take-all n l (le-of-eq e) ∙ sym (take-all k l (omega arith))
 
 -- one byte copied
 pub copy-step : (s z : List ℕ) (i j q : ℕ) → i < q → q ≤ length s → sets (set z j (getD s i 0)) (j + 1) (slice (i + 1) q s) ≡ sets z j (slice i q s)

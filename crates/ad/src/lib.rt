@@ -163,14 +163,7 @@ pub fn count_definitions(words: &[u64]) -> usize
 pub fn part(bytes: &[u8], at: usize, len: usize) -> &[u8]
     ensures { λ r. ⌜ now r ≡ bytesAt (now (bytes .entry)) at len ⌝ }
 {
-    if bytes.len() <= at {
-        return &bytes[bytes.len()..];
-    }
-    if len <= bytes.len() - at {
-        let end = at + len;
-        return &bytes[at..end];
-    }
-    &bytes[at..]
+    parts::cut(bytes, at, len)
 }
 
 // The name of the reference i.

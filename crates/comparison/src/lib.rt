@@ -71,7 +71,7 @@ fn order_holds(op: Comparison, order: Order) -> bool
 fn order_at(s: &[u8], memory: &[u8], offset: u16, length: u16) -> Order
     ensures { λ r. ⌜ r ≡ stringOrder (now (s .entry)) (take length (drop offset (now (memory .entry)))) ⌝ }
 {
-    text::string_order(s, values::cut(memory, offset as usize, length as usize))
+    text::string_order(s, parts::cut(memory, offset as usize, length as usize))
 }
 
 fn order_with(first: &[u8], second: &[u8], s: &[u8], side: bool, offset: u16, length: u16) -> Order
@@ -96,10 +96,10 @@ fn strings_order(
     ensures { λ r. ⌜ r ≡ stringOrder (bytesAt (now (first .entry)) (now (second .entry)) side offset length) (bytesAt (now (first .entry)) (now (second .entry)) s o n) ⌝ }
 {
     if side {
-        let bytes = values::cut(second, offset as usize, length as usize);
+        let bytes = parts::cut(second, offset as usize, length as usize);
         return order_with(first, second, bytes, s, o, n);
     }
-    let bytes = values::cut(first, offset as usize, length as usize);
+    let bytes = parts::cut(first, offset as usize, length as usize);
     order_with(first, second, bytes, s, o, n)
 }
 

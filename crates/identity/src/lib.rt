@@ -75,7 +75,7 @@ fn is_real(x: f64, b: Value) -> bool
 fn same_at(s: &[u8], memory: &[u8], offset: u16, length: u16) -> bool
     ensures { λ r. ⌜ r ≡ sameBytes (now (s .entry)) (take length (drop offset (now (memory .entry)))) ⌝ }
 {
-    text::same_bytes(s, values::cut(memory, offset as usize, length as usize))
+    text::same_bytes(s, parts::cut(memory, offset as usize, length as usize))
 }
 
 // `s` is the first String's bytes.
@@ -108,10 +108,10 @@ fn same(first: &[u8], second: &[u8], a: Value, b: Value) -> bool
         Value::Real(x) => is_real(x, b),
         Value::String(side, offset, length) => {
             if side {
-                let s = values::cut(second, offset as usize, length as usize);
+                let s = parts::cut(second, offset as usize, length as usize);
                 return is_string(first, second, s, b);
             }
-            let s = values::cut(first, offset as usize, length as usize);
+            let s = parts::cut(first, offset as usize, length as usize);
             is_string(first, second, s, b)
         }
     }

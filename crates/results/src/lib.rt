@@ -1,7 +1,8 @@
 // What is shown of a match: the value in a slot of its table, and the bytes of a String.
 ghost use mathlib.Core.Path.{_≡_};
 ghost use mathlib.Core.Bool.{cond};
-ghost use Rattle.values.specs.Values.{bytesAt, PartFrom};
+ghost use Rattle.parts.specs.Parts.{PartFrom};
+ghost use Rattle.values.specs.Values.{bytesAt};
 ghost use Rattle.results.specs.Results.{shownAt};
 use slots::Slot;
 

@@ -1,12 +1,10 @@
 -- Values: a table over their six kinds, and a String's bytes. Assumes nothing.
-use Prim.Native.Nat.{ℕ, _+_, _^_, _<_, min}
-use mathlib.Core.Path.{_≡_}
+use Prim.Native.Nat.{ℕ, _^_, _<_}
 use mathlib.Core.Bool.{Bool, not, cond}
 use mathlib.Core.List.{List}
-use lib.ListN.{length, take, drop}
+use lib.ListN.{take, drop}
 use lib.Dec.{T}
 use lib.Ieee.{Float, binary64, fits}
-use denote.Ref.{RefT}
 use Rattle.integers.specs.Integers.{width}
 use Rattle.values.specs.declared.Value.{Value}
 use Rattle.values.specs.declared.Value.the-variants.{Undefined, Error, Boolean, Integer, Real, String}
@@ -24,14 +22,6 @@ kinds u e b i r s (String side offset length) = s side offset length
 -- side is true. A place beyond the memory is cut to it.
 abbrev pub bytesAt : List ℕ → List ℕ → Bool → ℕ → ℕ → List ℕ
 bytesAt first second side offset length = take length (drop offset (cond side second first))
-
--- n bytes behind the place p, which is a block of memory and a number of bytes there
-abbrev pub behind : ℕ × ℕ → ℕ → ℕ × ℕ
-behind p n = (p .0, n + p .1)
-
--- r begins at a byte of the memory m: 'a part of that ad's lent memory'. A place beyond the memory is cut to its end.
-abbrev pub PartFrom : RefT (List ℕ) → ℕ → RefT (List ℕ) → Type 0
-PartFrom m offset r = r .ptr ≡ behind (m .ptr) (min offset (length (m .now)))
 
 -- the numbers of a value are those of its types, as those of a value in a program are
 abbrev pub Sized : Value → Type 0

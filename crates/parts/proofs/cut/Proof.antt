@@ -1,4 +1,4 @@
--- `values::cut` meets its contract. Assumes nothing.
+-- `parts::cut` meets its contract. Assumes nothing.
 use mathlib.Core.Path.{sym, ap}
 use Prim.Native.Nat.{_-_}
 use native.Mathlib.Nat.{add-sub-cancel-left, le-of-lt, min-eq-left, min-eq-right}
@@ -6,11 +6,11 @@ use native.Mathlib.Omega.{arith}
 use denote.Ref.{now}
 use lib.ListN.{length, drop, drop-of-length-le, length-drop}
 use lib.Seq.{drop-length}
-use Rattle.values.specs.Values.{behind}
-use Rattle.values.proofs.Parts.{cut-none, cut-all}
+use Rattle.parts.specs.Parts.{behind}
+use Rattle.parts.proofs.Parts.{cut-none, cut-all}
 use borrow.Author.Needs.{needs}
-use Rattle.values.proofs.cut.Statement.{statement}
-use Rattle.values.proofs.cut.Tie as tie
+use Rattle.parts.proofs.cut.Statement.{statement}
+use Rattle.parts.proofs.cut.Tie as tie
 
 returns : tie.Need-returns
 returns c =
