@@ -16,8 +16,8 @@ use Rattle.writer.specs.Inner.Put.{Puts, Near}
 use Rattle.writer.proofs.Laws.{puts-byte, puts-join, puts-as}
 use Rattle.well_formed.specs.WellFormed.{Holds, Answers}
 use Rattle.well_formed.specs.Laws.Bounds.{bounded}
-use Rattle.well_formed.specs.Laws.Runs.{bytes-are}
-use Rattle.well_formed.specs.Laws.Leaves.{Run}
+use Rattle.tree_check.specs.Laws.Runs.{bytes-are}
+use Rattle.tree_check.specs.Laws.Leaves.{Run}
 use Rattle.well_formed.specs.Laws.Definitions.{Table, table-row}
 use Rattle.well_formed.specs.Laws.Prints.{length-definition}
 use Rattle.well_formed.specs.Laws.Whole.{holds-table}

@@ -14,7 +14,7 @@ use Rattle.syntax.specs.Print.{decimal, literalText, referenceText, printed}
 use Rattle.lexemes.specs.Inner.Lexeme.{isName, isString, isReal}
 use Rattle.ad.specs.Stored.{kindAt, operandAt, bytesAt}
 use Rattle.writer.specs.Inner.Put.{Near}
-use Rattle.well_formed.specs.Inner.Decode.{Found, got, bad, test, keywordFits, booleanFits, integerFits, standsAt, leafOf, leafAt}
+use Rattle.tree_check.specs.Inner.Decode.{Found, got, bad, test, keywordFits, booleanFits, integerFits, standsAt, leafOf, leafAt}
 
 none : {e : Expr} → bad ≡ got e → ⊥
 none h = let z : _≡_ {A = ℕ} 0 1 = cc in omega arith

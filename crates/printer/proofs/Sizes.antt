@@ -10,9 +10,9 @@ use Rattle.syntax.specs.Tree.{Expr, literal, reference, unary, binary, conditio
 use Rattle.ad.specs.Layout.{exprBytes}
 use Rattle.ad.specs.Stored.{kindAt, operandAt}
 use Rattle.ad.specs.Laws.Content.{unary-range, binary-high, size-some}
-use Rattle.well_formed.specs.Laws.Leaves.{Run}
-use Rattle.well_formed.specs.Laws.Trees.{unary-parts, binary-parts, conditional-parts, leaf-parts}
-use Rattle.well_formed.specs.Laws.Operands.{run-one, run-two, run-three}
+use Rattle.tree_check.specs.Laws.Leaves.{Run}
+use Rattle.tree_check.specs.Laws.Trees.{unary-parts, binary-parts, conditional-parts, leaf-parts}
+use Rattle.tree_check.specs.Laws.Operands.{run-one, run-two, run-three}
 use Rattle.printer.specs.Sizes.{sizeAt, treeSize}
 
 module _ (w b : List ℕ) where

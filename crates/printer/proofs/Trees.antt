@@ -16,9 +16,9 @@ use Rattle.ad.specs.Stored.{kindAt, operandAt, unaryOf, binaryOf}
 use Rattle.ad.specs.Laws.Content.{unary-range, binary-found, binary-high}
 use Rattle.writer.specs.Inner.Put.{Puts, Near}
 use Rattle.writer.proofs.Laws.{puts-byte, puts-join, puts-as}
-use Rattle.well_formed.specs.Laws.Leaves.{Run}
-use Rattle.well_formed.specs.Laws.Trees.{unary-parts, binary-parts, conditional-parts, leaf-parts}
-use Rattle.well_formed.specs.Laws.Operands.{run-leaf, run-one, run-two, run-three}
+use Rattle.tree_check.specs.Laws.Leaves.{Run}
+use Rattle.tree_check.specs.Laws.Trees.{unary-parts, binary-parts, conditional-parts, leaf-parts}
+use Rattle.tree_check.specs.Laws.Operands.{run-leaf, run-one, run-two, run-three}
 use Rattle.printer.specs.Inner.Post.{bindsKind, wrapped, Fits, Written, LeafFits, LeafWritten}
 use Rattle.printer.specs.Sizes.{treeSize}
 use Rattle.printer.proofs.Sizes.{one-smaller, two-smaller, three-smaller}

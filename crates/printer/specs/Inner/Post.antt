@@ -11,8 +11,8 @@ use Rattle.syntax.specs.Grammar.{bindsOf}
 use Rattle.syntax.specs.Print.{binds, wrap, printed, definitionText, definitionsText, printedAd}
 use Rattle.ad.specs.Stored.{binaryOf}
 use Rattle.writer.specs.Inner.Put.{Puts, Near}
-use Rattle.well_formed.specs.Inner.Decode.{got, leafAt}
-use Rattle.well_formed.specs.Laws.Leaves.{Run}
+use Rattle.tree_check.specs.Inner.Decode.{got, leafAt}
+use Rattle.tree_check.specs.Laws.Leaves.{Run}
 use Rattle.well_formed.specs.Laws.Definitions.{Table}
 
 -- how a node of kind k binds: 'Binding, loosest first'; the kinds are those of docs/LAYOUT.md
