@@ -1,7 +1,7 @@
-use Rattle.printer.proofs.Ads.{opened, closing-near, ad-written}
+use Rattle.ad_printer.proofs.Definitions.{opened, closing-near, ad-written}
 use borrow.Author.Needs.{needs}
-use Rattle.printer.proofs.put_ad.Statement.{statement}
-use Rattle.printer.proofs.put_ad.Tie as tie
+use Rattle.ad_printer.proofs.put_ad.Statement.{statement}
+use Rattle.ad_printer.proofs.put_ad.Tie as tie
 
 put-definitions-requires : tie.Need-put-definitions-requires
 put-definitions-requires c κs =

@@ -3,8 +3,8 @@ use Rattle.text.specs.Bytes.{bytes}
 use borrow.Author.Tests.{ne-eqb}
 use native.Mathlib.Omega.{arith}
 use borrow.Author.Needs.{needs}
-use Rattle.printer.proofs.put_boolean.Statement.{statement}
-use Rattle.printer.proofs.put_boolean.Tie as tie
+use Rattle.leaf_printer.proofs.put_boolean.Statement.{statement}
+use Rattle.leaf_printer.proofs.put_boolean.Tie as tie
 
 put-requires : tie.Need-put-requires
 unfolding literalText bytes

@@ -4,12 +4,12 @@ use Prim.Native.Nat.{ℕ, _+_}
 use lib.ListN.{length}
 use Rattle.text.specs.Bytes.{bytes}
 use Rattle.writer.proofs.Laws.{puts-as}
-use Rattle.printer.proofs.Ads.{name-near, equals-near, root-fits, row-written}
-use Rattle.printer.proofs.Trees.{tree-fits-as, tree-written-as}
+use Rattle.ad_printer.proofs.Definitions.{name-near, equals-near, root-fits, row-written}
+use Rattle.tree_printer.proofs.Trees.{tree-fits-as, tree-written-as}
 use Rattle.ad.specs.Stored.{rootAt, bytesAt}
 use borrow.Author.Needs.{needs}
-use Rattle.printer.proofs.put_definition.Statement.{statement}
-use Rattle.printer.proofs.put_definition.Tie as tie
+use Rattle.ad_printer.proofs.put_definition.Statement.{statement}
+use Rattle.ad_printer.proofs.put_definition.Tie as tie
 
 offset-requires : tie.Need-offset-requires
 offset-requires c κs = (c .before .before .before .pre .few, c .before .before .before .pre .words)

@@ -5,13 +5,13 @@ use lib.ListN.{length, length-append}
 use Rattle.syntax.specs.Print.{literalText}
 use Rattle.text.specs.Bytes.{bytes}
 use Rattle.writer.proofs.Laws.{puts-as, puts-join}
-use Rattle.printer.proofs.Leaves.{near-as, text-1, text-2, text-3, text-4, text-5, text-6, text-7, text-8}
+use Rattle.leaf_printer.proofs.Leaves.{near-as, text-1, text-2, text-3, text-4, text-5, text-6, text-7, text-8}
 use Rattle.syntax.specs.Tree.{string}
 use Rattle.ad.specs.Stored.{bytesAt}
 use native.Mathlib.Omega.{arith}
 use borrow.Author.Needs.{needs}
-use Rattle.printer.proofs.put_leaf.Statement.{statement}
-use Rattle.printer.proofs.put_leaf.Tie as tie
+use Rattle.leaf_printer.proofs.put_leaf.Statement.{statement}
+use Rattle.leaf_printer.proofs.put_leaf.Tie as tie
 
 put-requires : tie.Need-put-requires
 unfolding literalText bytes

@@ -1,10 +1,10 @@
 use mathlib.Core.Path.{_∙_, ap}
-use Rattle.printer.proofs.Trees.{binds-leaf, binds-unary, binds-conditional, binds-binary}
+use Rattle.tree_printer.proofs.Trees.{binds-leaf, binds-unary, binds-conditional, binds-binary}
 use Rattle.syntax.specs.Grammar.{bindsOf}
-use Rattle.printer.specs.Inner.Post.{bindsKind}
+use Rattle.tree_printer.specs.Inner.Post.{bindsKind}
 use borrow.Author.Needs.{needs}
-use Rattle.printer.proofs.binding.Statement.{statement}
-use Rattle.printer.proofs.binding.Tie as tie
+use Rattle.tree_printer.proofs.binding.Statement.{statement}
+use Rattle.tree_printer.proofs.binding.Tie as tie
 
 returns : tie.Need-returns
 returns c = binds-leaf (c .before .kind .result) (c .if1 .taken) ∙ ap bindsKind (c .before .kind .ensures)

@@ -13,7 +13,7 @@ use Rattle.ad.specs.Laws.Content.{unary-range, binary-high, size-some}
 use Rattle.tree_check.specs.Laws.Leaves.{Run}
 use Rattle.tree_check.specs.Laws.Trees.{unary-parts, binary-parts, conditional-parts, leaf-parts}
 use Rattle.tree_check.specs.Laws.Operands.{run-one, run-two, run-three}
-use Rattle.printer.specs.Sizes.{sizeAt, treeSize}
+use Rattle.tree_printer.specs.Sizes.{sizeAt, treeSize}
 
 module _ (w b : List ℕ) where
   -- under any bound that is enough: a tree is no deeper than it has nodes

@@ -19,9 +19,10 @@ use Rattle.writer.proofs.Laws.{puts-byte, puts-join, puts-as}
 use Rattle.tree_check.specs.Laws.Leaves.{Run}
 use Rattle.tree_check.specs.Laws.Trees.{unary-parts, binary-parts, conditional-parts, leaf-parts}
 use Rattle.tree_check.specs.Laws.Operands.{run-leaf, run-one, run-two, run-three}
-use Rattle.printer.specs.Inner.Post.{bindsKind, wrapped, Fits, Written, LeafFits, LeafWritten}
-use Rattle.printer.specs.Sizes.{treeSize}
-use Rattle.printer.proofs.Sizes.{one-smaller, two-smaller, three-smaller}
+use Rattle.tree_printer.specs.Inner.Post.{bindsKind, wrapped, Fits, Written}
+use Rattle.leaf_printer.specs.Inner.Post.{LeafFits, LeafWritten}
+use Rattle.tree_printer.specs.Sizes.{treeSize}
+use Rattle.tree_printer.proofs.Sizes.{one-smaller, two-smaller, three-smaller}
 
 -- ---- the same by another name
 

@@ -1,18 +1,18 @@
 use Prim.Native.Nat.{ℕ, _+_, _-_, _<_}
 use Rattle.text.specs.Bytes.{bytes}
-use Rattle.printer.proofs.Ads.{none-written, row-fits, one-row, semicolon-near, rest-fits, more-rows}
+use Rattle.ad_printer.proofs.Definitions.{none-written, row-fits, one-row, semicolon-near, rest-fits, more-rows}
 use borrow.Author.Needs.{needs}
 use native.Mathlib.Omega.{arith}
 use Prim.Native.Nat.{ℕ, _<_}
 use borrow.Fn.Kinds.{In}
 use borrow.Fn.PlainCycle.{Measures, is, falls, and}
-use Rattle.printer.proofs.put_definitions.Reads as put-definitions
-use Rattle.printer.proofs.put_definitions.Kinds as put-definitions-kinds
-use Rattle.printer.proofs.+put_definitions.Lts-put_definitions as put-definitions-lts
-use Rattle.printer.proofs.put_definition.Reads as put-definition-reads
+use Rattle.ad_printer.proofs.put_definitions.Reads as put-definitions
+use Rattle.ad_printer.proofs.put_definitions.Kinds as put-definitions-kinds
+use Rattle.ad_printer.proofs.+put_definitions.Lts-put_definitions as put-definitions-lts
+use Rattle.ad_printer.proofs.put_definition.Reads as put-definition-reads
 use Rattle.writer.proofs.put.Reads as put-reads
-use Rattle.printer.proofs.+put_definitions.{statement}
-use Rattle.printer.proofs.+put_definitions.Tie.{close}
+use Rattle.ad_printer.proofs.+put_definitions.{statement}
+use Rattle.ad_printer.proofs.+put_definitions.Tie.{close}
 
 abbrev μ-put-definitions : Measures 3 put-definitions-kinds.ps ℕ
 μ-put-definitions κs a = a .1 .1 .1 .0 - a .1 .1 .0

@@ -4,38 +4,38 @@ use Prim.Native.Nat.{ℕ, _+_, _*_, _<_}
 use lib.ListN.{length}
 use Rattle.text.specs.Bytes.{bytes}
 use Rattle.writer.proofs.Laws.{puts-as}
-use Rattle.printer.proofs.Trees.{fits-as, tree-fits-as, written-as, tree-written-as, bare-fits, bare-written, closed-near, closed-fits, closed-behind, closed-written, leaf-fits, leaf-written, one-near, one-falls, one-fits, one-written, two-falls, two-fits, two-near, two-second, two-written, three-falls, three-fits, three-near, three-second, three-near-2, three-third, three-written, above}
+use Rattle.tree_printer.proofs.Trees.{fits-as, tree-fits-as, written-as, tree-written-as, bare-fits, bare-written, closed-near, closed-fits, closed-behind, closed-written, leaf-fits, leaf-written, one-near, one-falls, one-fits, one-written, two-falls, two-fits, two-near, two-second, two-written, three-falls, three-fits, three-near, three-second, three-near-2, three-third, three-written, above}
 use Rattle.syntax.specs.Laws.Codes.{binds-low}
 use Rattle.syntax.specs.Grammar.{bindsOf}
 use Rattle.syntax.specs.Print.{unaryText, binaryText}
 use Rattle.syntax.specs.declared.Binary.{Binary}
 use Rattle.syntax.specs.declared.Unary.{Unary}
 use Rattle.ad.specs.Stored.{kindAt, operandAt, unaryOf, binaryOf}
-use Rattle.printer.specs.Sizes.{treeSize}
+use Rattle.tree_printer.specs.Sizes.{treeSize}
 use borrow.Author.Needs.{needs}
 use native.Mathlib.Omega.{arith}
 use Prim.Native.Nat.{ℕ, _<_}
 use borrow.Fn.Kinds.{In}
 use borrow.Fn.PlainCycle.{Measures, is, falls, and}
-use Rattle.printer.proofs.put_operand.Reads as put-operand
-use Rattle.printer.proofs.put_operand.Kinds as put-operand-kinds
-use Rattle.printer.proofs.+put_operand+put_tree.Lts-put_operand as put-operand-lts
-use Rattle.printer.proofs.put_tree.Reads as put-tree
-use Rattle.printer.proofs.put_tree.Kinds as put-tree-kinds
-use Rattle.printer.proofs.+put_operand+put_tree.Lts-put_tree as put-tree-lts
+use Rattle.tree_printer.proofs.put_operand.Reads as put-operand
+use Rattle.tree_printer.proofs.put_operand.Kinds as put-operand-kinds
+use Rattle.tree_printer.proofs.+put_operand+put_tree.Lts-put_operand as put-operand-lts
+use Rattle.tree_printer.proofs.put_tree.Reads as put-tree
+use Rattle.tree_printer.proofs.put_tree.Kinds as put-tree-kinds
+use Rattle.tree_printer.proofs.+put_operand+put_tree.Lts-put_tree as put-tree-lts
 use Rattle.ad.proofs.binary_of.Reads as binary-of-reads
 use Rattle.ad.proofs.kind.Reads as kind-reads
 use Rattle.ad.proofs.operand.Reads as operand-reads
 use Rattle.ad.proofs.unary_of.Reads as unary-of-reads
 use Rattle.lookahead.proofs.binds.Reads as binds-reads
-use Rattle.printer.proofs.binding.Reads as binding-reads
-use Rattle.printer.proofs.put_leaf.Reads as put-leaf-reads
+use Rattle.tree_printer.proofs.binding.Reads as binding-reads
+use Rattle.leaf_printer.proofs.put_leaf.Reads as put-leaf-reads
 use Rattle.writer.proofs.put.Reads as put-reads
 use Rattle.writer.proofs.put_binary.Reads as put-binary-reads
 use Rattle.writer.proofs.put_byte.Reads as put-byte-reads
 use Rattle.writer.proofs.put_unary.Reads as put-unary-reads
-use Rattle.printer.proofs.+put_operand+put_tree.{statement}
-use Rattle.printer.proofs.+put_operand+put_tree.Tie.{close}
+use Rattle.tree_printer.proofs.+put_operand+put_tree.{statement}
+use Rattle.tree_printer.proofs.+put_operand+put_tree.Tie.{close}
 
 abbrev μ-put-operand : Measures 3 put-operand-kinds.ps ℕ
 μ-put-operand κs a = 2 * treeSize (a .0 .now) (a .1 .1 .1 .0) + 1
