@@ -9,8 +9,8 @@ use lib.Dec.{ltb}
 use borrow.Author.Tests.{ltb-true, ltb-false}
 use Rattle.syntax.specs.Tree.{Expr, literal, reference, unary, binary, conditional, Ad, size, nodes}
 use Rattle.syntax.specs.Print.{printed}
-use Rattle.well_formed.specs.Laws.Leaves.{Run}
-use Rattle.well_formed.specs.Laws.Trees.{unary-parts, binary-parts, conditional-parts}
+use Rattle.tree_check.specs.Laws.Leaves.{Run}
+use Rattle.tree_check.specs.Laws.Trees.{unary-parts, binary-parts, conditional-parts}
 use Rattle.well_formed.specs.Laws.Definitions.{Table, table-row}
 use Rattle.inspection.specs.Inspection.{subexpressions, expressions, textAt}
 

@@ -10,10 +10,10 @@ use Rattle.syntax.specs.Print.{printed}
 use Rattle.ad.specs.Layout.{exprBytes}
 use Rattle.well_formed.specs.WellFormed.{Answers}
 use Rattle.well_formed.specs.Laws.Bounds.{bounded}
-use Rattle.well_formed.specs.Laws.Runs.{Stands, stands-inside}
-use Rattle.well_formed.specs.Laws.Prints.{print-short}
+use Rattle.tree_check.specs.Laws.Runs.{Stands, stands-inside}
+use Rattle.tree_check.specs.Laws.Prints.{print-short}
 use Rattle.well_formed.specs.declared.Checked.the-variants.{WellFormed}
-use Rattle.printer.specs.Inner.Post.{Fits, Written}
+use Rattle.tree_printer.specs.Inner.Post.{Fits, Written}
 use Rattle.printer.specs.Prints.{PrintsText}
 use Rattle.printer.specs.declared.Printed.the-variants.{Text, Refused}
 use Rattle.printer.proofs.Ads.{table, print-put, print-long, print-longer}

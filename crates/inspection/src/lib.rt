@@ -56,14 +56,14 @@ fn expression_room(words: &[u64], bytes: &[u8], node: usize, out: &mut [u8]) -> 
     }
     // Its length, as a refusal must leave the output unchanged.
     let mut none = [0u8; 1];
-    let k = printer::put_tree(words, bytes, node, &mut none, 0);
+    let k = tree_printer::put_tree(words, bytes, node, &mut none, 0);
     if out.len() < k {
         return Printed::Refused(11, 0);
     }
     if syntax::TEXT_BYTES < k {
         return Printed::Refused(11, 0);
     }
-    printer::put_tree(words, bytes, node, out, 0);
+    tree_printer::put_tree(words, bytes, node, out, 0);
     Printed::Text(k)
 }
 

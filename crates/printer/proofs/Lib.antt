@@ -1,4 +1,1 @@
-pub mod Leaves
-pub mod Sizes
-pub mod Trees
 pub mod Ads

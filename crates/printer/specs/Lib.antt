@@ -1,3 +1,1 @@
 pub mod Prints
-pub mod Sizes
-pub mod Inner

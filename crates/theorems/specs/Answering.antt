@@ -12,7 +12,8 @@ use Rattle.syntax.specs.Tree.{Ad, nodes}
 use Rattle.syntax.specs.Print.{printedAd}
 use Rattle.ad.specs.Layout.{adWords, adBytesRoom, adBytes}
 use Rattle.well_formed.specs.WellFormed.{Holds, Answers}
-use Rattle.well_formed.specs.Inner.Decode.{FoundAd, all, none, adAt, newFrom, zeroBehind}
+use Rattle.well_formed.specs.Inner.Decode.{FoundAd, all, none, adAt, newFrom}
+use Rattle.unused_room.specs.Inner.Zeros.{zeroBehind}
 use Rattle.well_formed.specs.Laws.Whole.{holds-long, holds-found, found-holds}
 use Rattle.well_formed.specs.declared.Checked.{Checked}
 use Rattle.well_formed.specs.declared.Checked.the-variants.{WellFormed, Malformed}

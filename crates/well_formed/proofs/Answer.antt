@@ -12,14 +12,15 @@ use Rattle.syntax.specs.Print.{definitionsText, printedAd}
 use Rattle.ad.specs.Layout.{adBytes}
 use Rattle.ad.specs.Stored.{offsetAt, lengthAt, bytesAt}
 use Rattle.ad.specs.Inner.Names.{definedIn}
-use Rattle.well_formed.specs.Inner.Decode.{rowsLength, RowsOk, newFrom, zeroBehind}
+use Rattle.well_formed.specs.Inner.Decode.{rowsLength, RowsOk, newFrom}
+use Rattle.unused_room.specs.Inner.Zeros.{zeroBehind}
 use Rattle.well_formed.specs.WellFormed.{AnswersRoom, Answers}
 use Rattle.well_formed.specs.Laws.Prints.{length-ad-print}
 use Rattle.well_formed.specs.Laws.Definitions.{Table, AllAd, ad-sound, ad-few}
 use Rattle.well_formed.specs.Laws.Whole.{holds-found, found-holds, holds-long}
 use Rattle.well_formed.specs.declared.Rows.the-variants.{Ads, Wrong}
 use Rattle.well_formed.specs.declared.Checked.the-variants.{WellFormed, Malformed}
-use Rattle.well_formed.proofs.Ways.{inside}
+use Rattle.tree_check.proofs.Ways.{inside}
 
 -- ---- distinct names
 

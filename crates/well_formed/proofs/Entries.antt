@@ -18,15 +18,16 @@ use Rattle.lexemes.specs.Inner.Lexeme.{every, isOneOf, isName}
 use Rattle.ad.specs.Layout.{exprBytes, adBytes}
 use Rattle.ad.specs.Stored.{offsetAt, lengthAt, rootAt, bytesAt}
 use Rattle.ad.specs.Laws.Content.{size-some}
-use Rattle.well_formed.specs.Inner.Decode.{WalkOk, Room, all, none, standsAt, entryFits, adAt, rowsLength, SameAd, RowsRoom, RowsOk, rowBefore, RowsSmall}
+use Rattle.tree_check.specs.Inner.Decode.{WalkOk, Room, standsAt}
+use Rattle.well_formed.specs.Inner.Decode.{all, none, entryFits, adAt, rowsLength, SameAd, RowsRoom, RowsOk, rowBefore, RowsSmall}
 use Rattle.well_formed.specs.Laws.Prints.{rows-one, rows-short}
 use Rattle.well_formed.specs.Laws.Definitions.{Table, AllAd, ad-sound}
 use Rattle.well_formed.specs.declared.Rows.{Rows}
 use Rattle.well_formed.specs.declared.Rows.the-variants.{Ads, Wrong}
-use Rattle.well_formed.specs.declared.Walk.{Walk}
-use Rattle.well_formed.specs.declared.Walk.the-variants.{Tree, Bad}
-use Rattle.well_formed.proofs.Tests.{stands-room, stands-long}
-use Rattle.well_formed.proofs.Ways.{inside, found-run}
+use Rattle.tree_check.specs.declared.Walk.{Walk}
+use Rattle.tree_check.specs.declared.Walk.the-variants.{Tree, Bad}
+use Rattle.tree_check.proofs.Tests.{stands-room, stands-long}
+use Rattle.tree_check.proofs.Ways.{inside, found-run}
 
 few-named : (a : Ad) → length a ≤ nodes a
 unfolding nodes

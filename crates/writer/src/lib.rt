@@ -3,11 +3,12 @@ use syntax::Binary;
 use syntax::Unary;
 ghost use mathlib.Core.Path.{_≡_};
 ghost use mathlib.Core.List.{[], _∷_, _++_};
-ghost use Prim.Native.Nat.{_+_, _*_, _≤_, _<_};
-ghost use lib.ListN.{length, set};
+ghost use Prim.Native.Nat.{_+_, _-_, _≤_, _<_};
+ghost use lib.ListN.{length, set, take, drop};
 ghost use Rattle.syntax.specs.Tree.{real, string};
 ghost use Rattle.syntax.specs.Print.{decimal, escaped, literalText, binaryText, unaryText};
 ghost use Rattle.writer.specs.Inner.Put.{Puts, Near};
+ghost use Rattle.writer.specs.Inner.Operators.{operatorStart, operatorEnd};
 
 // Writes a byte, if it fits in.
 pub fn put_byte(out: &mut [u8], at: usize, b: u8)
@@ -31,6 +32,14 @@ pub fn put(bytes: &[u8], out: &mut [u8], at: usize) -> usize
         m += 1;
     }
     m
+}
+
+// Writes the bytes from start up to end.
+fn put_part(bytes: &[u8], start: usize, end: usize, out: &mut [u8], at: usize) -> usize
+    requires { ⌜ (start ≤ end) × (end ≤ length (now bytes)) × Near at (take (end - start) (drop start (now bytes))) ⌝ }
+    ensures { λ r. ⌜ Puts (take (end - start) (drop start (now (bytes .entry)))) (now (out .entry)) at (now (out .exit)) r ⌝ }
+{
+    put(&bytes[start..end], out, at)
 }
 
 fn digit(d: u64) -> u8
@@ -118,28 +127,59 @@ pub fn put_unary(u: Unary, out: &mut [u8], at: usize) -> usize
     }
 }
 
+// Where an operator's text begins among the texts of all, one behind another.
+fn operator_start(j: Binary) -> usize
+    ensures { λ r. ⌜ r ≡ operatorStart j ⌝ }
+{
+    match j {
+        Binary::Or => 0,
+        Binary::And => 2,
+        Binary::Equal => 4,
+        Binary::NotEqual => 6,
+        Binary::Is => 8,
+        Binary::Isnt => 8,
+        Binary::Less => 12,
+        Binary::LessOrEqual => 12,
+        Binary::Greater => 14,
+        Binary::GreaterOrEqual => 14,
+        Binary::Add => 16,
+        Binary::Subtract => 17,
+        Binary::Multiply => 18,
+        Binary::Divide => 19,
+        Binary::Remainder => 20,
+    }
+}
+
+// Where it ends.
+fn operator_end(j: Binary) -> usize
+    ensures { λ r. ⌜ r ≡ operatorEnd j ⌝ }
+{
+    match j {
+        Binary::Or => 2,
+        Binary::And => 4,
+        Binary::Equal => 6,
+        Binary::NotEqual => 8,
+        Binary::Is => 10,
+        Binary::Isnt => 12,
+        Binary::Less => 13,
+        Binary::LessOrEqual => 14,
+        Binary::Greater => 15,
+        Binary::GreaterOrEqual => 16,
+        Binary::Add => 17,
+        Binary::Subtract => 18,
+        Binary::Multiply => 19,
+        Binary::Divide => 20,
+        Binary::Remainder => 21,
+    }
+}
+
 // Writes an operator of two operands.
 fn put_operator(j: Binary, out: &mut [u8], at: usize) -> usize
     requires { ⌜ Near at (binaryText j) ⌝ }
     ensures { λ r. ⌜ Puts (binaryText j) (now (out .entry)) at (now (out .exit)) r ⌝ }
 {
-    match j {
-        Binary::Or => put(b"||", out, at),
-        Binary::And => put(b"&&", out, at),
-        Binary::Equal => put(b"==", out, at),
-        Binary::NotEqual => put(b"!=", out, at),
-        Binary::Is => put(b"is", out, at),
-        Binary::Isnt => put(b"isnt", out, at),
-        Binary::Less => put(b"<", out, at),
-        Binary::LessOrEqual => put(b"<=", out, at),
-        Binary::Greater => put(b">", out, at),
-        Binary::GreaterOrEqual => put(b">=", out, at),
-        Binary::Add => put(b"+", out, at),
-        Binary::Subtract => put(b"-", out, at),
-        Binary::Multiply => put(b"*", out, at),
-        Binary::Divide => put(b"/", out, at),
-        Binary::Remainder => put(b"%", out, at),
-    }
+    let texts = b"||&&==!=isnt<=>=+-*/%";
+    put_part(texts, operator_start(j), operator_end(j), out, at)
 }
 
 // Writes an operator of two operands between blanks.

@@ -1,9 +1,9 @@
 use mathlib.Core.Path.{sym, _∙_, ap}
 use Prim.Native.Nat.{ℕ, _+_, _-_, _<_}
 use Rattle.ad.specs.Stored.{lengthAt, rootAt}
-use Rattle.well_formed.specs.declared.Walk.the-variants.{Tree, Bad}
+use Rattle.tree_check.specs.declared.Walk.the-variants.{Tree, Bad}
 use Rattle.well_formed.proofs.Entries.{rows-small, rows-full, rows-stop, rows-unfit, entry-short, entry-room, rows-bad, rows-deep, rows-more, walk-as, room-as, rows-as, rows-room}
-use Rattle.well_formed.proofs.Ways.{walk-small}
+use Rattle.tree_check.proofs.Ways.{walk-small}
 use borrow.Author.Needs.{needs}
 use native.Mathlib.Omega.{arith}
 use Prim.Native.Nat.{ℕ, _<_}
@@ -15,7 +15,7 @@ use Rattle.well_formed.proofs.+rows_from.Lts-rows_from as rows-from-lts
 use Rattle.ad.proofs.name_length.Reads as name-length-reads
 use Rattle.ad.proofs.root.Reads as root-reads
 use Rattle.well_formed.proofs.entry_fits.Reads as entry-fits-reads
-use Rattle.well_formed.proofs.visit.Reads as visit-reads
+use Rattle.tree_check.proofs.visit.Reads as visit-reads
 use Rattle.well_formed.proofs.with_row.Reads as with-row-reads
 use Rattle.well_formed.proofs.+rows_from.{statement}
 use Rattle.well_formed.proofs.+rows_from.Tie.{close}

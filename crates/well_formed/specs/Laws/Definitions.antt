@@ -20,10 +20,11 @@ use Rattle.ad.specs.Layout.{exprBytes, exprNodes, adBytes, adNodes, adDefinitio
 use Rattle.ad.specs.Stored.{offsetAt, lengthAt, rootAt, bytesAt}
 use Rattle.ad.specs.Laws.Content.{length-nodes, size-some}
 use Rattle.round_trip.specs.Bounded.{isWritable, areWritable}
-use Rattle.well_formed.specs.Inner.Decode.{Found, got, bad, treeAt, FoundAd, all, none, chainAd, withTree, testAd, standsAt, entryFits, adAt}
-use Rattle.well_formed.specs.Laws.Runs.{Stands, stands-none, stands-at, stands-as, stands-join, stands-left, stands-right, bytes-of, bytes-are}
-use Rattle.well_formed.specs.Laws.Leaves.{All, Run}
-use Rattle.well_formed.specs.Laws.Trees.{tree-sound, tree-complete}
+use Rattle.tree_check.specs.Inner.Decode.{Found, got, bad, treeAt, standsAt}
+use Rattle.well_formed.specs.Inner.Decode.{FoundAd, all, none, chainAd, withTree, testAd, entryFits, adAt}
+use Rattle.tree_check.specs.Laws.Runs.{Stands, stands-none, stands-at, stands-as, stands-join, stands-left, stands-right, bytes-of, bytes-are}
+use Rattle.tree_check.specs.Laws.Leaves.{All, Run}
+use Rattle.tree_check.specs.Laws.Trees.{tree-sound, tree-complete}
 
 -- ---- the words of a definition
 

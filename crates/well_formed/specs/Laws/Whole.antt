@@ -19,8 +19,9 @@ use Rattle.ad.specs.Laws.Content.{length-ad, length-entries, padded-length}
 use Rattle.ad.specs.Laws.Names.{names-in}
 use Rattle.well_formed.specs.WellFormed.{Holds}
 use Rattle.well_formed.specs.Laws.Bounds.{bounded, holds}
-use Rattle.well_formed.specs.Inner.Decode.{all, adAt, newFrom, isZero, zeroBehind}
-use Rattle.well_formed.specs.Laws.Runs.{Stands, stands-at, stands-as, stands-front, stands-left, stands-right, stands-inside, bytes-are}
+use Rattle.well_formed.specs.Inner.Decode.{all, adAt, newFrom}
+use Rattle.unused_room.specs.Inner.Zeros.{isZero, zeroBehind}
+use Rattle.tree_check.specs.Laws.Runs.{Stands, stands-at, stands-as, stands-front, stands-left, stands-right, stands-inside, bytes-are}
 use Rattle.well_formed.specs.Laws.Definitions.{Table, offset-is, length-is, AllAd, ad-sound, ad-few, ad-complete}
 
 -- ---- an ad in two parts
