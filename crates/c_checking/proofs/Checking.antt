@@ -7,10 +7,10 @@ use borrow.Author.Tests.{lt-ltb, le-ltb}
 use Rattle.well_formed.specs.WellFormed.{Answers}
 use Rattle.well_formed.specs.declared.Checked.{Checked}
 use Rattle.well_formed.specs.declared.Checked.the-variants.{WellFormed, Malformed}
-use Rattle.c_ads.proofs.Three.{ap₃}
+use Rattle.c_checking.proofs.Three.{ap₃}
 use mathlib.Core.List.{[], _∷_}
-use Rattle.c_ads.specs.Checking.{CheckReported, no-room, malformed, well-formed}
-use Rattle.c_ads.specs.Inner.Numbers.{checkNumbers}
+use Rattle.c_checking.specs.Checking.{CheckReported, no-room, malformed, well-formed}
+use Rattle.c_checking.specs.Inner.Numbers.{checkNumbers}
 
 module _ (w b : List ℕ) where
   pub small-words : {n : List ℕ} → length w < 4864 → n ≡ 1 ∷ 0 ∷ 0 ∷ 0 ∷ [] → CheckReported w b n

@@ -1,6 +1,6 @@
 use borrow.Author.Needs.{needs}
-use Rattle.c_ads.proofs.check_numbers.Statement.{statement}
-use Rattle.c_ads.proofs.check_numbers.Tie as tie
+use Rattle.c_checking.proofs.check_numbers.Statement.{statement}
+use Rattle.c_checking.proofs.check_numbers.Tie as tie
 
 returns : tie.Need-returns
 returns c = rw (c .before .answer .given .1)

@@ -1,10 +1,10 @@
--- `c_ads::definition` meets its contract. Assumes nothing.
+-- `c_places::definition` meets its contract. Assumes nothing.
 use mathlib.Core.Path.{_∙_, sym, ap}
 use Rattle.inspection.proofs.Holders.{holder-inside}
-use Rattle.c_ads.specs.Inspecting.{holderNumbers}
+use Rattle.c_places.specs.Inspecting.{holderNumbers}
 use borrow.Author.Needs.{needs}
-use Rattle.c_ads.proofs.definition.Statement.{statement}
-use Rattle.c_ads.proofs.definition.Tie as tie
+use Rattle.c_places.proofs.definition.Statement.{statement}
+use Rattle.c_places.proofs.definition.Tie as tie
 
 offset-requires : tie.Need-offset-requires
 offset-requires c κs =

@@ -1,9 +1,9 @@
 use denote.Ref.{now}
 use mathlib.Core.Path.{refl}
-use Rattle.c_ads.proofs.Checking.{small-words, small-bytes, checked}
+use Rattle.c_checking.proofs.Checking.{small-words, small-bytes, checked}
 use borrow.Author.Needs.{needs}
-use Rattle.c_ads.proofs.check.Statement.{statement}
-use Rattle.c_ads.proofs.check.Tie as tie
+use Rattle.c_checking.proofs.check.Statement.{statement}
+use Rattle.c_checking.proofs.check.Tie as tie
 
 returns : tie.Need-returns
 returns c =

@@ -1,10 +1,10 @@
--- `c_ads::read` meets its contract. Assumes nothing.
+-- `c_reading::read` meets its contract. Assumes nothing.
 use mathlib.Core.Path.{ap, subst, _∙_}
 use Rattle.reader.specs.Content.{Answered}
-use Rattle.c_ads.specs.Reading.{numbersOf}
+use Rattle.c_reading.specs.Reading.{numbersOf}
 use borrow.Author.Needs.{needs}
-use Rattle.c_ads.proofs.read.Statement.{statement}
-use Rattle.c_ads.proofs.read.Tie as tie
+use Rattle.c_reading.proofs.read.Statement.{statement}
+use Rattle.c_reading.proofs.read.Tie as tie
 
 returns : tie.Need-returns
 returns c =
