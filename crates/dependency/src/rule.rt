@@ -35,7 +35,7 @@ fn resolving(
     let n = p.nodes + q.nodes;
     let x = links::node_at(p.nodes, i);
     let f = links::found_at(v, b, p.definitions, w, c, q.definitions, x, prints);
-    marks::resolve(i, n, x, f, len, target)
+    listing::resolve(i, n, x, f, len, target)
 }
 
 // The transition that begins loop search k.
@@ -54,7 +54,7 @@ fn starting(
 {
     let n = p.nodes + q.nodes;
     let y = links::node_at(p.nodes, k);
-    marks::seek(k, n, y, len, marks)
+    components::seek(k, n, y, len, marks)
 }
 
 // A transition of loop search k at the node x.
@@ -84,9 +84,9 @@ fn searching(
     if i < links::led_count(v, w, target, x) {
         let y = links::led_to(v, w, target, x, i);
         let refers = links::refers(v, w, x);
-        return marks::explore(k, x, top, high, low, y, i, refers, len, marks, flag);
+        return components::explore(k, x, top, high, low, y, i, refers, len, marks, flag);
     }
-    marks::retreat(k, p.nodes + q.nodes, x, top, high, low, len, marks)
+    closing::retreat(k, p.nodes + q.nodes, x, top, high, low, len, marks)
 }
 
 // The transition that begins list search k.
@@ -96,7 +96,7 @@ fn between(roots: &[usize], k: usize, len: usize, marks: &mut [u16]) -> Position
     ensures kept { λ r. ⌜ r .len ≡ len ⌝ }
 {
     let y = roots[k];
-    marks::begin(k, y, len, marks)
+    listing::begin(k, y, len, marks)
 }
 
 // A transition of list search k at the node x.
@@ -119,10 +119,10 @@ fn inside(
     let i = marks::followed(marks, x);
     if i < links::need_count(v, w, target, flag, x) {
         let y = links::led_to(v, w, target, x, i);
-        return marks::follow(k, x, y, i, len, marks);
+        return listing::follow(k, x, y, i, len, marks);
     }
     let f = marks::entered_from(marks, x);
-    marks::leave(k, x, f, len, list)
+    listing::leave(k, x, f, len, list)
 }
 
 // One transition, from any place and over any marks.
@@ -156,7 +156,7 @@ pub fn transition(
             searching(v, p, w, q, k, x, top, high, low, len, target, marks, flag)
         }
         Place::Closing(k, x, top, high) => {
-            marks::close(k, p.nodes + q.nodes, x, top, high, len, marks)
+            closing::close(k, p.nodes + q.nodes, x, top, high, len, marks)
         }
         Place::Between(k) => between(roots, k, len, marks),
         Place::Inside(k, x) => inside(v, w, k, x, len, target, marks, flag, list),
