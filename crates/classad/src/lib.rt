@@ -1,17 +1,16 @@
 // The public face: every public function, none of which requires anything, and the same for programs in other languages, on numbers and
 // slices (docs/LAYOUT.md). Any bytes and numbers may come, in memory of any length.
-// The kit exports C functions of this crate alone. What each does, and with the same contract, is in `crates/c_operators`, `crates/c_ads`
-// and `crates/c_matching`.
+// The kit exports C functions of this crate alone. What each does, and with the same contract, is in the crates `c_..`.
 ghost use mathlib.Core.Path.{_≡_};
 ghost use Rattle.values.specs.declared.Value.the-variants.{Real};
 ghost use Rattle.reals.specs.Reals.{storedReal};
 ghost use Rattle.slots.specs.declared.Slot.the-variants.{Held};
 ghost use Rattle.slots.specs.Packed.{slotAt, Stored};
 ghost use Rattle.c_operators.specs.Operators.{binaryNamed, unaryNamed, binarySlot, unarySlot, conditionalSlot};
-ghost use Rattle.c_ads.specs.Reading.{Reported};
-ghost use Rattle.c_ads.specs.Checking.{CheckReported};
-ghost use Rattle.c_ads.specs.Printing.{PrintReported};
-ghost use Rattle.c_ads.specs.Inspecting.{positionNumbers, holderNumbers};
+ghost use Rattle.c_reading.specs.Reading.{Reported};
+ghost use Rattle.c_checking.specs.Checking.{CheckReported};
+ghost use Rattle.c_printing.specs.Printing.{PrintReported};
+ghost use Rattle.c_places.specs.Inspecting.{positionNumbers, holderNumbers};
 ghost use Rattle.c_matching.specs.Matching.{MatchReported};
 ghost use Rattle.c_ordering.specs.Ordering.{OrderReported};
 ghost use Rattle.c_results.specs.Showing.{slotNumbers, StringPlaced};
@@ -82,7 +81,7 @@ pub extern "C" fn classad_read(
 )
     ensures { λ _. ⌜ Reported (now (text .entry)) (now (words .entry)) (now (bytes .entry)) (now (words .exit)) (now (bytes .exit)) (now (answer .exit)) ⌝ }
 {
-    c_ads::read(text, words, bytes, answer);
+    c_reading::read(text, words, bytes, answer);
 }
 
 // Checks any numbers that may be a stored ad.
@@ -90,7 +89,7 @@ pub extern "C" fn classad_read(
 pub extern "C" fn classad_check(words: &[u64], bytes: &[u8], answer: &mut [u64; 4])
     ensures { λ _. ⌜ CheckReported (now (words .entry)) (now (bytes .entry)) (now (answer .exit)) ⌝ }
 {
-    c_ads::check(words, bytes, answer);
+    c_checking::check(words, bytes, answer);
 }
 
 // Matches any numbers that may be two stored ads, in any lent memory.
@@ -129,7 +128,7 @@ pub extern "C" fn classad_print(
 )
     ensures { λ _. ⌜ PrintReported printedAd (now (words .entry)) (now (bytes .entry)) (now (output .entry)) (now (output .exit)) (now (answer .exit)) ⌝ }
 {
-    c_ads::print(words, bytes, output, answer);
+    c_printing::print(words, bytes, output, answer);
 }
 
 // Flags the circular references and lists the evaluation order of any numbers that may be two stored ads.
@@ -184,7 +183,7 @@ pub extern "C" fn classad_string<'a>(
 pub extern "C" fn classad_definition(words: &[u64], node: usize, answer: &mut [u64; 4])
     ensures { λ _. ⌜ now (answer .exit) ≡ holderNumbers (now (words .entry)) (holder (now (words .entry)) node) ⌝ }
 {
-    c_ads::definition(words, node, answer);
+    c_places::definition(words, node, answer);
 }
 
 // Prints the expression of one node of any numbers that may be a stored ad into any lent output.
@@ -198,7 +197,7 @@ pub extern "C" fn classad_expression(
 )
     ensures { λ _. ⌜ PrintReported (λ a. nodeText a node) (now (words .entry)) (now (bytes .entry)) (now (output .entry)) (now (output .exit)) (now (answer .exit)) ⌝ }
 {
-    c_ads::expression(words, bytes, node, output, answer);
+    c_printing::expression(words, bytes, node, output, answer);
 }
 
 // The line and the column of a place in a text, as two numbers.
@@ -206,5 +205,5 @@ pub extern "C" fn classad_expression(
 pub extern "C" fn classad_position(text: &[u8], place: usize, answer: &mut [u64; 2])
     ensures { λ _. ⌜ now (answer .exit) ≡ positionNumbers (now (text .entry)) place ⌝ }
 {
-    c_ads::position(text, place, answer);
+    c_places::position(text, place, answer);
 }

@@ -1,28 +1,9 @@
 // The command classad over the proved library. docs/COMMANDS.md says what it writes.
-mod drawing;
-mod input;
-mod lines;
-mod phrases;
-mod shown;
-mod stored;
-mod verdict;
-
-use input::Budget;
-use input::Input;
+use cli_arguments::Request;
+use cli_input::Input;
 use ordering::Order;
 use printer::Printed;
 use reader::Answer;
-
-enum Command {
-    Check,
-    Print,
-    Match,
-    Trace,
-    Graph,
-    Help,
-    Version,
-    Unknown,
-}
 
 // What is done with two ads; the number is a budget.
 enum Task {
@@ -31,58 +12,30 @@ enum Task {
     Graph,
 }
 
-fn is_help(word: &[u8]) -> bool {
-    if text::same_bytes(word, b"help") {
-        return true;
-    }
-    if text::same_bytes(word, b"--help") {
-        return true;
-    }
-    text::same_bytes(word, b"-h")
+// Says that the text of the file i is refused.
+fn refused(out: &mut bool, i: usize, text: &[u8], refusal: u8, place: usize) {
+    cli_output::argument(out, i);
+    cli_refusals::refused(out, text, refusal, place);
 }
 
-fn command_of(word: &[u8]) -> Command {
-    if text::same_bytes(word, b"check") {
-        return Command::Check;
-    }
-    if text::same_bytes(word, b"print") {
-        return Command::Print;
-    }
-    if text::same_bytes(word, b"match") {
-        return Command::Match;
-    }
-    if text::same_bytes(word, b"trace") {
-        return Command::Trace;
-    }
-    if text::same_bytes(word, b"graph") {
-        return Command::Graph;
-    }
-    if text::same_bytes(word, b"--version") {
-        return Command::Version;
-    }
-    if is_help(word) {
-        return Command::Help;
-    }
-    Command::Unknown
-}
-
-fn check_text(out: &mut bool, name: &[u8], text: &[u8]) {
+fn check_text(out: &mut bool, i: usize, text: &[u8]) {
     let mut words = [0u64; 4864];
     let mut bytes = [0u8; 16384];
-    match classad::read(text, &mut words, &mut bytes) {
-        Answer::Accepted(d, n) => lines::accepted(out, name, d, n),
-        Answer::Refused(k, p) => lines::refused(out, name, text, k, p),
+    match reader::read(text, &mut words, &mut bytes) {
+        Answer::Accepted(d, n) => {
+            cli_output::argument(out, i);
+            cli_output::accepted(out, d, n);
+        }
+        Answer::Refused(k, p) => refused(out, i, text, k, p),
     }
 }
 
 fn check_file(out: &mut bool, i: usize) {
-    let mut name = io::large_buffer();
-    let n = os::arg(i, &mut name);
     let mut text = [0u8; 16385];
-    let Input::Text(k) = input::read_file(&name[..n], &mut text) else {
+    let Input::Text(k) = cli_input::read_argument(i, &mut text) else {
         return;
     };
-    check_text(out, &name[..n], ad::part(&text, 0, k));
+    check_text(out, i, ad::part(&text, 0, k));
 }
 
 // Once standard output is lost, nothing is said of the files that are left, not even that one cannot be read.
@@ -97,34 +50,32 @@ fn check_files(out: &mut bool, count: usize) {
     }
 }
 
-fn print_stored(out: &mut bool, name: &[u8], words: &[u64], bytes: &[u8]) {
+fn print_stored(out: &mut bool, words: &[u64], bytes: &[u8]) {
     let mut text = [0u8; 16384];
-    match classad::print(words, bytes, &mut text) {
+    match printer::print(words, bytes, &mut text) {
         Printed::Text(n) => {
-            lines::say(out, ad::part(&text, 0, n));
-            lines::say(out, b"\n");
+            cli_output::say(out, ad::part(&text, 0, n));
+            cli_output::say(out, b"\n");
         }
-        Printed::Refused(k, p) => lines::refused(out, name, b"", k, p),
+        Printed::Refused(k, p) => refused(out, 2, b"", k, p),
     }
 }
 
-fn print_text(out: &mut bool, name: &[u8], text: &[u8]) {
+fn print_text(out: &mut bool, text: &[u8]) {
     let mut words = [0u64; 4864];
     let mut bytes = [0u8; 16384];
-    match classad::read(text, &mut words, &mut bytes) {
-        Answer::Accepted(_, _) => print_stored(out, name, &words, &bytes),
-        Answer::Refused(k, p) => lines::refused(out, name, text, k, p),
+    match reader::read(text, &mut words, &mut bytes) {
+        Answer::Accepted(_, _) => print_stored(out, &words, &bytes),
+        Answer::Refused(k, p) => refused(out, 2, text, k, p),
     }
 }
 
 fn print_file(out: &mut bool) {
-    let mut name = io::large_buffer();
-    let n = os::arg(2, &mut name);
     let mut text = [0u8; 16385];
-    let Input::Text(k) = input::read_file(&name[..n], &mut text) else {
+    let Input::Text(k) = cli_input::read_argument(2, &mut text) else {
         return;
     };
-    print_text(out, &name[..n], ad::part(&text, 0, k));
+    print_text(out, ad::part(&text, 0, k));
 }
 
 // Matches two stored ads, and shows each entry of the list where `trace` asks for it.
@@ -139,7 +90,7 @@ fn match_stored<'a>(
 ) {
     let mut table = [0u64; 4096];
     let mut list = [0u64; 2048];
-    let outcome = classad::match_ads(
+    let outcome = matching::match_ads(
         first,
         first_bytes,
         second,
@@ -149,9 +100,9 @@ fn match_stored<'a>(
         budget,
     );
     if trace {
-        shown::entries(out, first, first_bytes, second, second_bytes, &table, &list);
+        cli_trace::entries(out, first, first_bytes, second, second_bytes, &table, &list);
     }
-    verdict::outcome(
+    cli_verdict::outcome(
         out,
         outcome,
         first,
@@ -159,7 +110,7 @@ fn match_stored<'a>(
         second,
         second_bytes,
         &table,
-        shown::entry_count(&list),
+        cli_trace::entry_count(&list),
     );
 }
 
@@ -172,7 +123,7 @@ fn graph_stored(
 ) {
     let mut flags = [0usize; 2048];
     let mut list = [0u64; 2048];
-    let order = classad::order_ads(
+    let order = ordering::order_ads(
         first,
         first_bytes,
         second,
@@ -181,19 +132,22 @@ fn graph_stored(
         &mut list,
     );
     match order {
-        Order::Refused(k, p) => lines::refused(out, b"graph", b"", k, p),
+        Order::Refused(k, p) => {
+            cli_output::say(out, b"graph");
+            cli_refusals::refused(out, b"", k, p);
+        }
         Order::Found(_, _) => {
-            drawing::draw(out, first, first_bytes, second, second_bytes, &flags)
+            cli_graph::draw(out, first, first_bytes, second, second_bytes, &flags)
         }
     }
 }
 
-// Whether a text was refused, which is then said.
-fn is_refused(out: &mut bool, name: &[u8], text: &[u8], answer: Answer) -> bool {
+// Whether the text of the file i was refused, which is then said.
+fn is_refused(out: &mut bool, i: usize, text: &[u8], answer: Answer) -> bool {
     match answer {
         Answer::Accepted(_, _) => false,
         Answer::Refused(k, p) => {
-            lines::refused(out, name, text, k, p);
+            refused(out, i, text, k, p);
             true
         }
     }
@@ -218,22 +172,15 @@ fn do_task<'a>(
     }
 }
 
-fn pair_texts(
-    out: &mut bool,
-    task: Task,
-    first_name: &[u8],
-    first_text: &[u8],
-    second_name: &[u8],
-    second_text: &[u8],
-) {
+fn pair_texts(out: &mut bool, task: Task, first_text: &[u8], second_text: &[u8]) {
     let mut first = [0u64; 4864];
     let mut first_bytes = [0u8; 16384];
     let mut second = [0u64; 4864];
     let mut second_bytes = [0u8; 16384];
-    let x = classad::read(first_text, &mut first, &mut first_bytes);
-    let y = classad::read(second_text, &mut second, &mut second_bytes);
-    let p = is_refused(out, first_name, first_text, x);
-    let q = is_refused(out, second_name, second_text, y);
+    let x = reader::read(first_text, &mut first, &mut first_bytes);
+    let y = reader::read(second_text, &mut second, &mut second_bytes);
+    let p = is_refused(out, 2, first_text, x);
+    let q = is_refused(out, 3, second_text, y);
     if p {
         return;
     }
@@ -245,109 +192,29 @@ fn pair_texts(
 
 // Both files are read before anything is said of either.
 fn pair_files(out: &mut bool, task: Task) {
-    let mut first = io::large_buffer();
-    let m = os::arg(2, &mut first);
-    let mut second = io::large_buffer();
-    let n = os::arg(3, &mut second);
     let mut s = [0u8; 16385];
     let mut t = [0u8; 16385];
-    let p = input::read_file(&first[..m], &mut s);
-    let q = input::read_file(&second[..n], &mut t);
+    let p = cli_input::read_argument(2, &mut s);
+    let q = cli_input::read_argument(3, &mut t);
     let Input::Text(i) = p else {
         return;
     };
     let Input::Text(j) = q else {
         return;
     };
-    pair_texts(
-        out,
-        task,
-        &first[..m],
-        ad::part(&s, 0, i),
-        &second[..n],
-        ad::part(&t, 0, j),
-    );
-}
-
-fn match_task(trace: bool, budget: u16) -> Task {
-    if trace {
-        return Task::Trace(budget);
-    }
-    Task::Match(budget)
-}
-
-fn match_command(out: &mut bool, count: usize, trace: bool) {
-    if input::inputs(2, 4) > 1 {
-        lines::usage(out, true);
-        return;
-    }
-    if count == 4 {
-        pair_files(out, match_task(trace, 65535));
-        return;
-    }
-    if count != 5 {
-        lines::usage(out, true);
-        return;
-    }
-    match input::budget_argument(4) {
-        Budget::Steps(n) => pair_files(out, match_task(trace, n)),
-        Budget::Bad => lines::usage(out, true),
-    }
-}
-
-fn graph_command(out: &mut bool, count: usize) {
-    if count != 4 {
-        lines::usage(out, true);
-        return;
-    }
-    if input::inputs(2, 4) > 1 {
-        lines::usage(out, true);
-        return;
-    }
-    pair_files(out, Task::Graph);
-}
-
-fn check_command(out: &mut bool, count: usize) {
-    if count < 3 {
-        lines::usage(out, true);
-        return;
-    }
-    if input::inputs(2, count) > 1 {
-        lines::usage(out, true);
-        return;
-    }
-    check_files(out, count);
-}
-
-fn print_command(out: &mut bool, count: usize) {
-    if count == 3 {
-        print_file(out);
-        return;
-    }
-    lines::usage(out, true);
-}
-
-fn version_command(out: &mut bool, count: usize) {
-    if count == 2 {
-        lines::version(out);
-        return;
-    }
-    lines::usage(out, true);
+    pair_texts(out, task, ad::part(&s, 0, i), ad::part(&t, 0, j));
 }
 
 fn main() {
-    let mut word = [0u8; 16];
-    let n = os::arg(1, &mut word);
-    let count = os::arg_count();
     let mut out = true;
-    match command_of(ad::part(&word, 0, n)) {
-        Command::Check => check_command(&mut out, count),
-        Command::Print => print_command(&mut out, count),
-        Command::Match => match_command(&mut out, count, false),
-        Command::Trace => match_command(&mut out, count, true),
-        Command::Graph => graph_command(&mut out, count),
-        Command::Help => lines::usage(&mut out, count != 2),
-        Command::Version => version_command(&mut out, count),
-        Command::Unknown => lines::usage(&mut out, true),
+    match cli_arguments::requested() {
+        Request::Check(count) => check_files(&mut out, count),
+        Request::Print => print_file(&mut out),
+        Request::Match(n) => pair_files(&mut out, Task::Match(n)),
+        Request::Trace(n) => pair_files(&mut out, Task::Trace(n)),
+        Request::Graph => pair_files(&mut out, Task::Graph),
+        Request::Help => cli_output::usage(&mut out, false),
+        Request::Version => cli_output::version(&mut out),
+        Request::Wrong => cli_output::usage(&mut out, true),
     }
 }

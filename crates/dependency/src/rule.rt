@@ -44,7 +44,7 @@ fn resolving(
         x,
         prints,
     );
-    marks::resolve(i, n, x, f, len, target)
+    listing::resolve(i, n, x, f, len, target)
 }
 
 // The transition that begins loop search k.
@@ -63,7 +63,7 @@ fn starting(
 {
     let n = p.nodes + q.nodes;
     let y = links::node_at(p.nodes, k);
-    marks::seek(k, n, y, len, marks)
+    components::seek(k, n, y, len, marks)
 }
 
 // A transition of loop search k at the node x.
@@ -93,9 +93,9 @@ fn searching(
     if i < links::led_count(first_words, second_words, target, x) {
         let y = links::led_to(first_words, second_words, target, x, i);
         let refers = links::refers(first_words, second_words, x);
-        return marks::explore(k, x, top, high, low, y, i, refers, len, marks, flag);
+        return components::explore(k, x, top, high, low, y, i, refers, len, marks, flag);
     }
-    marks::retreat(k, p.nodes + q.nodes, x, top, high, low, len, marks)
+    closing::retreat(k, p.nodes + q.nodes, x, top, high, low, len, marks)
 }
 
 // The transition that begins list search k.
@@ -105,7 +105,7 @@ fn between(roots: &[usize], k: usize, len: usize, marks: &mut [u16]) -> Position
     ensures kept { λ r. ⌜ r .len ≡ len ⌝ }
 {
     let y = roots[k];
-    marks::begin(k, y, len, marks)
+    listing::begin(k, y, len, marks)
 }
 
 // A transition of list search k at the node x.
@@ -128,10 +128,10 @@ fn inside(
     let i = marks::followed(marks, x);
     if i < links::need_count(first_words, second_words, target, flag, x) {
         let y = links::led_to(first_words, second_words, target, x, i);
-        return marks::follow(k, x, y, i, len, marks);
+        return listing::follow(k, x, y, i, len, marks);
     }
     let f = marks::entered_from(marks, x);
-    marks::leave(k, x, f, len, list)
+    listing::leave(k, x, f, len, list)
 }
 
 // One transition, from any place and over any marks.
@@ -190,7 +190,7 @@ pub fn transition(
             )
         }
         Place::Closing(k, x, top, high) => {
-            marks::close(k, p.nodes + q.nodes, x, top, high, len, marks)
+            closing::close(k, p.nodes + q.nodes, x, top, high, len, marks)
         }
         Place::Between(k) => between(roots, k, len, marks),
         Place::Inside(k, x) => inside(

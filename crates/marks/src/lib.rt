@@ -1,24 +1,12 @@
-// The transitions, over any graph and any marks, right or wrong. Each is given the node or link at hand.
-mod components;
-mod memory;
-
-pub use components::close;
-pub use components::explore;
-pub use components::retreat;
-pub use components::seek;
+// The slice of marks: six numbers a node, of 16 bits each, since from clear marks no height is above 2,049. And where the traversal stands.
 use graph::Place;
-use memory::FOLLOWED;
-use memory::STAMP;
-pub use memory::entered_from;
-pub use memory::followed;
 ghost use mathlib.Core.Path.{_≡_};
-ghost use mathlib.Core.List.{List};
-ghost use Prim.Native.Nat.{ℕ, _+_, _≤_, _<_};
-ghost use lib.ListN.{length};
+ghost use mathlib.Core.List.{[], _∷_};
+ghost use Prim.Native.Nat.{_+_, _*_, _≤_, _<_};
+ghost use lib.ListN.{length, set};
 ghost use Rattle.graph.specs.Graph.{Graph};
-ghost use Rattle.graph.specs.Transition.{named, back, transition};
-ghost use Rattle.graph.specs.declared.Place.the-variants.{Resolving, Between, Inside};
-ghost use Rattle.marks.specs.Inner.Memory.{view, marksRoom, markWords, AtNode, AtStart, AtLink, AtLast, Grows};
+ghost use Rattle.graph.specs.Transition.{named};
+ghost use Rattle.marks.specs.Inner.Memory.{markAt, marksRoom, markWords, fill};
 
 // Where the traversal stands, and how long the list is.
 pub struct Position {
@@ -26,102 +14,93 @@ pub struct Position {
     pub len: usize,
 }
 
-// The node x, the i-th of n, is resolved to found.
-pub fn resolve(
-    i: usize,
-    n: usize,
-    x: usize,
-    found: usize,
-    len: usize,
-    target: &mut [usize],
-) -> Position
-    requires { ⌜ (i < n) × (x < length (now target)) ⌝ }
-    ensures { λ r. ⌜ ((G : Graph) (ma fl ls : List ℕ) → AtNode G i n x found → view (r .place) (r .len) (now (target .exit)) ma fl ls ≡ transition G (view (Resolving i) len (now (target .entry)) ma fl ls)) ⌝ }
-    ensures kept { λ r. ⌜ r .len ≡ len ⌝ }
+const PER_NODE: usize = 6;
+
+const SLOTS: usize = 2048;
+
+// 1 once a loop search has seen the node, 2 once a list search has
+pub const STAMP: usize = 0;
+
+// one more than the node from which it was entered
+pub const FROM: usize = 1;
+
+// how many of its links were followed
+pub const FOLLOWED: usize = 2;
+
+// its height among the open nodes
+pub const HEIGHT: usize = 3;
+
+// one more than the next older open node
+pub const BELOW: usize = 4;
+
+// the least height to which the node that it was entered from was then known to lead
+pub const SAVED: usize = 5;
+
+fn wide(x: u16) -> usize
+    ensures { λ r. ⌜ r ≡ x ⌝ }
 {
-    target[x] = found;
-    let j = i + 1;
-    if j < n {
-        return Position {
-            place: Place::Resolving(j),
-            len: len,
-        };
-    }
-    Position {
-        place: Place::Starting(0),
-        len: len,
-    }
+    x as usize
 }
 
-// List search k begins at y, unless y is in the list already.
-pub fn begin(k: usize, y: usize, len: usize, marks: &mut [u16]) -> Position
-    requires { ⌜ (k < 4096) × (y < 2048) × (markWords ≤ length (now marks)) ⌝ }
-    ensures { λ r. ⌜ ((G : Graph) (ta fl ls : List ℕ) → AtStart G k y → view (r .place) (r .len) ta (now (marks .exit)) fl ls ≡ transition G (view (Between k) len ta (now (marks .entry)) fl ls)) ⌝ }
-    ensures kept { λ r. ⌜ r .len ≡ len ⌝ }
+// Mark j of the node x.
+pub fn read(marks: &[u16], x: usize, j: usize) -> usize
+    requires { ⌜ (x < 2048) × (j < 6) × (markWords ≤ length (now marks)) ⌝ }
+    ensures { λ r. ⌜ r ≡ markAt (now (marks .entry)) j x ⌝ }
 {
-    if memory::read(marks, y, STAMP) == 2 {
-        return Position {
-            place: Place::Between(k + 1),
-            len: len,
-        };
-    }
-    memory::enter(marks, y, 2, 0);
-    Position {
-        place: Place::Inside(k, y),
-        len: len,
-    }
+    wide(marks[x * PER_NODE + j])
 }
 
-// List search k is at x, and follows its need i, to y: the need is done with if y was seen, and otherwise y is entered.
-pub fn follow(k: usize, x: usize, y: usize, i: usize, len: usize, marks: &mut [u16]) -> Position
-    requires { ⌜ (x < 2048) × (y < 2048) × (i < 3) × (markWords ≤ length (now marks)) ⌝ }
-    ensures { λ r. ⌜ ((G : Graph) (ta fl ls : List ℕ) → AtLink G x y i ta (now (marks .entry)) fl → view (r .place) (r .len) ta (now (marks .exit)) fl ls ≡ transition G (view (Inside k x) len ta (now (marks .entry)) fl ls)) ⌝ }
-    ensures kept { λ r. ⌜ r .len ≡ len ⌝ }
+// How many links of the node x were followed.
+pub fn followed(marks: &[u16], x: usize) -> usize
+    requires { ⌜ (x < 2048) × (markWords ≤ length (now marks)) ⌝ }
+    ensures { λ r. ⌜ r ≡ markAt (now (marks .entry)) 2 x ⌝ }
 {
-    if memory::read(marks, y, STAMP) == 2 {
-        memory::write(marks, x, FOLLOWED, i + 1);
-        return Position {
-            place: Place::Inside(k, x),
-            len: len,
-        };
-    }
-    memory::enter(marks, y, 2, x + 1);
-    Position {
-        place: Place::Inside(k, y),
-        len: len,
-    }
+    read(marks, x, FOLLOWED)
 }
 
-// Where list search k goes on from a node whose mark says that it was entered from f.
-fn back_from(k: usize, f: usize) -> Place
-    requires { ⌜ k < 4096 ⌝ }
-    ensures { λ r. ⌜ ((G : Graph) → G .slots ≡ marksRoom → r ≡ back k (named G f)) ⌝ }
+// From which node x was entered: one more than that, 0 for none.
+pub fn entered_from(marks: &[u16], x: usize) -> usize
+    requires { ⌜ (x < 2048) × (markWords ≤ length (now marks)) ⌝ }
+    ensures { λ r. ⌜ r ≡ markAt (now (marks .entry)) 1 x ⌝ }
 {
-    let p = memory::in_slots(f);
-    if p == 0 {
-        return Place::Between(k + 1);
-    }
-    Place::Inside(k, p - 1)
+    read(marks, x, FROM)
 }
 
-// An entry of the list.
-fn entry(x: usize) -> u64
-    requires { ⌜ x < 2048 ⌝ }
-    ensures { λ r. ⌜ r ≡ x + 1 ⌝ }
+// The mark, or 0 where it names no slot: any mark, right or wrong, then names a node with marks or none.
+pub fn in_slots(mark: usize) -> usize
+    ensures { λ r. ⌜ ((G : Graph) → G .slots ≡ marksRoom → named G r ≡ named G mark) ⌝ }
+    ensures small { λ r. ⌜ r ≤ 2048 ⌝ }
 {
-    (x + 1) as u64
+    if SLOTS < mark {
+        return 0;
+    }
+    mark
 }
 
-// List search k leaves x, which has no need left and was entered from f, and writes its entry.
-pub fn leave(k: usize, x: usize, f: usize, len: usize, list: &mut [u64]) -> Position
-    requires { ⌜ (k < 4096) × (x < 2048) × (len < length (now list)) ⌝ }
-    ensures rule { λ r. ⌜ ((G : Graph) (ta ma fl : List ℕ) → AtLast G x f ta ma fl → view (r .place) (r .len) ta ma fl (now (list .exit)) ≡ transition G (view (Inside k x) len ta ma fl (now (list .entry)))) ⌝ }
-    ensures room { λ r. ⌜ Grows len (r .len) (now (list .entry)) (now (list .exit)) ⌝ }
+// Mark j of the node x becomes a.
+pub fn write(marks: &mut [u16], x: usize, j: usize, a: usize)
+    requires { ⌜ (x < 2048) × (j < 6) × (a < 65536) × (markWords ≤ length (now marks)) ⌝ }
+    ensures { λ _. ⌜ now (marks .exit) ≡ set (now (marks .entry)) (x * 6 + j) a ⌝ }
 {
-    let place = back_from(k, f);
-    list[len] = entry(x);
-    Position {
-        place: place,
-        len: len + 1,
-    }
+    marks[x * PER_NODE + j] = a as u16;
+}
+
+// The node y is entered from p, by a search with the stamp t; none of its links was followed.
+pub fn enter(marks: &mut [u16], y: usize, t: usize, p: usize)
+    requires { ⌜ (y < 2048) × (t < 65536) × (p < 65536) × (markWords ≤ length (now marks)) ⌝ }
+    ensures { λ _. ⌜ now (marks .exit) ≡ fill (now (marks .entry)) y 0 (t ∷ p ∷ 0 ∷ []) ⌝ }
+{
+    write(marks, y, STAMP, t);
+    write(marks, y, FROM, p);
+    write(marks, y, FOLLOWED, 0);
+}
+
+// The node y is open at the height h, above b, and low is saved with it.
+pub fn put_on(marks: &mut [u16], y: usize, h: usize, b: usize, low: usize)
+    requires { ⌜ (y < 2048) × (h < 65536) × (b < 65536) × (low < 65536) × (markWords ≤ length (now marks)) ⌝ }
+    ensures { λ _. ⌜ now (marks .exit) ≡ fill (now (marks .entry)) y 3 (h ∷ b ∷ low ∷ []) ⌝ }
+{
+    write(marks, y, HEIGHT, h);
+    write(marks, y, BELOW, b);
+    write(marks, y, SAVED, low);
 }

@@ -1,0 +1,19 @@
+use Rattle.closing.proofs.Closing.{next-none, next-some}
+use borrow.Author.Needs.{needs}
+use Rattle.closing.proofs.next_open.Statement.{statement}
+use Rattle.closing.proofs.next_open.Tie as tie
+
+returns : tie.Need-returns
+returns c =
+    λ G e s. next-none G _ (c .before .before .in-slots .ensures .0 G s) _ _ (c .before .if1 .taken)
+    (c .searched-to .ensures G e)
+
+returns-2 : tie.Need-returns-2
+returns-2 c =
+    λ G e s. next-some G _ (c .before .in-slots .ensures .0 G s) _ _ s (c .if1 .left)
+    (c .before .in-slots .ensures .1)
+
+pub next-open-spec : {M : Type 1} → statement M
+next-open-spec =
+    tie.close (tie.spec (λ c κs. search needs) (λ c. search needs) (λ c κs. search needs) returns
+    (λ c. search needs) returns-2)
