@@ -1,11 +1,12 @@
 //! Which cases a run makes, and which one it is at.
 
 use reference::rng::Rng;
-use std::fs::File;
+use std::fs::{self, File};
 use std::os::unix::fs::FileExt;
+use std::path::{Path, PathBuf};
 
-/// Names the file in which `tests/run` finds the last case of a run that did not end well.
-const LAST_CASE: &str = "LAST_CASE";
+/// Names the folder in which `tests/run` finds the last case of each run that did not end well.
+const LAST_CASES: &str = "LAST_CASES";
 
 pub struct Cases {
     pub name: &'static str,
@@ -35,7 +36,7 @@ impl Cases {
 
     /// The index of each case, with its own generator of numbers.
     pub fn each(&self) -> impl Iterator<Item = (u64, Rng)> + '_ {
-        let last = std::env::var_os(LAST_CASE).and_then(|path| File::create(path).ok());
+        let last = self.last_case().and_then(|path| File::create(path).ok());
         (self.from..self.from + self.count).map(move |index| {
             if let Some(file) = &last {
                 self.keep(file, index);
@@ -43,6 +44,17 @@ impl Cases {
             let start = Rng::new(self.seed).bits() ^ Rng::new(!index).bits();
             (index, Rng::new(start))
         })
+    }
+
+    /// The run ended, so that its last case is not the one to repeat.
+    pub fn ended(&self) {
+        if let Some(path) = self.last_case() {
+            fs::remove_file(path).ok();
+        }
+    }
+
+    fn last_case(&self) -> Option<PathBuf> {
+        std::env::var_os(LAST_CASES).map(|folder| Path::new(&folder).join(self.name))
     }
 
     /// The command that repeats a case, kept before it begins: a fault in a library may end

@@ -25,6 +25,8 @@ mod values;
 use cases::Cases;
 use report::Report;
 use std::process::ExitCode;
+use std::sync::atomic::{AtomicBool, AtomicUsize, Ordering};
+use std::thread;
 
 const USAGE: &str = "usage: tests/run NAME SEED COUNT [FROM]
        tests/run all SEED COUNT
@@ -68,7 +70,7 @@ fn main() -> ExitCode {
     };
     let one = RUNS.iter().find(|run| run.name == name.as_str());
     let good = match (one, name.as_str(), numbers) {
-        (Some(run), _, numbers) => Cases::of(run.name, numbers).map(|cases| finish(run, &cases)),
+        (Some(run), _, numbers) => Cases::of(run.name, numbers).map(|cases| finish(run, &cases, "")),
         (None, "all", [seed, count]) => all(seed, count),
         _ => None,
     };
@@ -84,26 +86,42 @@ fn usage() -> ExitCode {
     ExitCode::from(FAULT)
 }
 
-/// Makes a run and prints its report; whether all was the same.
-fn finish(run: &Run, cases: &Cases) -> bool {
+/// Makes a run and prints its report, with `end` behind it; whether all was the same.
+fn finish(run: &Run, cases: &Cases, end: &str) -> bool {
     let report = (run.run)(cases);
-    print!("{}", report.text());
+    cases.ended();
+    print!("{}{end}", report.text());
     report.good()
 }
 
-/// All runs with their shares of the cases, at least one case each. A run with a difference
-/// does not keep the others from running.
+/// As much as a program's first thread has.
+const STACK_BYTES: usize = 8 << 20;
+
+/// All runs with their shares of the cases, at least one case each, as many at a time as there
+/// are processors. A run with a difference does not keep the others from running.
 fn all(seed: &str, count: &str) -> Option<bool> {
     let (seed, count) = (seed.parse().ok()?, count.parse::<u64>().ok()?);
-    let mut bad = Vec::new();
-    for run in &RUNS {
-        let count = count.checked_mul(run.share)?.div_ceil(1_000);
-        let cases = Cases::new(run.name, seed, 0, count);
-        if !finish(run, &cases) {
-            bad.push(run.name);
+    count.checked_mul(1_000)?;
+    let next = AtomicUsize::new(0);
+    let good = RUNS.each_ref().map(|_| AtomicBool::new(false));
+    let work = || {
+        while let Some(at) = Some(next.fetch_add(1, Ordering::Relaxed)).filter(|&at| at < RUNS.len()) {
+            let run = &RUNS[at];
+            let cases = Cases::new(run.name, seed, 0, (count * run.share).div_ceil(1_000));
+            good[at].store(finish(run, &cases, "\n"), Ordering::Relaxed);
         }
-        println!();
-    }
+    };
+    let threads = thread::available_parallelism().map_or(1, |count| count.get());
+    thread::scope(|scope| {
+        for _ in 0..threads.min(RUNS.len()) {
+            let thread = thread::Builder::new().stack_size(STACK_BYTES);
+            thread.spawn_scoped(scope, work).expect("a thread starts");
+        }
+    });
+    let bad: Vec<&str> = (RUNS.iter().zip(&good))
+        .filter(|(_, good)| !good.load(Ordering::Relaxed))
+        .map(|(run, _)| run.name)
+        .collect();
     let (runs, names) = (RUNS.len(), bad.join(", "));
     match bad.len() {
         0 => println!("all of seed {seed}: {runs} runs, no difference"),

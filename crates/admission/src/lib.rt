@@ -6,7 +6,7 @@ ghost use Rattle.admission.specs.Admission.{Well, smallPair};
 ghost use Rattle.admission.specs.Inner.Admitting.{Admitting};
 
 // How many entries the list of a match has room for.
-pub const ENTRIES: usize = 2048;
+pub const ENTRIES: usize = links::SLOTS;
 
 // A refusal's number, or none.
 pub enum Admission {

@@ -77,7 +77,7 @@ pub fn retreat(
     len: usize,
     marks: &[u16],
 ) -> Position
-    requires { ⌜ (k < 4096) × (x < 2048) × (markWords ≤ length (now marks)) ⌝ }
+    requires { ⌜ (k < 4096) × (x < marksRoom) × (markWords ≤ length (now marks)) ⌝ }
     ensures { λ r. ⌜ ((G : Graph) (ta fl ls : List ℕ) → AtLoopLast G n x ta (now (marks .entry)) → view (r .place) (r .len) ta (now (marks .entry)) fl ls ≡ transition G (view (Searching k x top high low) len ta (now (marks .entry)) fl ls)) ⌝ }
     ensures kept { λ r. ⌜ r .len ≡ len ⌝ }
 {
@@ -106,7 +106,7 @@ pub fn close(
     len: usize,
     marks: &mut [u16],
 ) -> Position
-    requires { ⌜ (k < 4096) × (x < 2048) × (top < 2048) × (markWords ≤ length (now marks)) ⌝ }
+    requires { ⌜ (k < 4096) × (x < marksRoom) × (top < marksRoom) × (markWords ≤ length (now marks)) ⌝ }
     ensures { λ r. ⌜ ((G : Graph) (ta fl ls : List ℕ) → AtClose G n → view (r .place) (r .len) ta (now (marks .exit)) fl ls ≡ transition G (view (Closing k x top high) len ta (now (marks .entry)) fl ls)) ⌝ }
     ensures kept { λ r. ⌜ r .len ≡ len ⌝ }
 {

@@ -12,7 +12,7 @@ ghost use lib.ListN.{length, set};
 ghost use Rattle.graph.specs.Graph.{Graph};
 ghost use Rattle.graph.specs.Transition.{searchedTo, transition};
 ghost use Rattle.graph.specs.declared.Place.the-variants.{Starting, Searching};
-ghost use Rattle.marks.specs.Inner.Memory.{view, markWords, Flagged, flaggedAt, AtSeek, AtLoopLink};
+ghost use Rattle.marks.specs.Inner.Memory.{view, markWords, Flagged, flaggedAt, AtSeek, AtLoopLink, marksRoom};
 
 // Where the traversal goes on when k of n loop searches are done.
 pub fn searched_to(k: usize, n: usize) -> Place
@@ -36,7 +36,7 @@ pub fn lower(a: usize, b: usize) -> usize
 
 // Loop search k begins at y, unless y was seen.
 pub fn seek(k: usize, n: usize, y: usize, len: usize, marks: &mut [u16]) -> Position
-    requires { ⌜ (k < 4096) × (y < 2048) × (markWords ≤ length (now marks)) ⌝ }
+    requires { ⌜ (k < 4096) × (y < marksRoom) × (markWords ≤ length (now marks)) ⌝ }
     ensures { λ r. ⌜ ((G : Graph) (ta fl ls : List ℕ) → AtSeek G k n y → view (r .place) (r .len) ta (now (marks .exit)) fl ls ≡ transition G (view (Starting k) len ta (now (marks .entry)) fl ls)) ⌝ }
     ensures kept { λ r. ⌜ r .len ≡ len ⌝ }
 {
@@ -57,7 +57,7 @@ pub fn seek(k: usize, n: usize, y: usize, len: usize, marks: &mut [u16]) -> Posi
 
 // The link i of x is done with; it closes a cycle where it goes to an open node, and flags x if x is a reference.
 fn pass(marks: &mut [u16], flag: &mut [usize], x: usize, i: usize, closes: bool)
-    requires { ⌜ (x < 2048) × (x < length (now flag)) × (i < 3) × (markWords ≤ length (now marks)) ⌝ }
+    requires { ⌜ (x < marksRoom) × (x < length (now flag)) × (i < 3) × (markWords ≤ length (now marks)) ⌝ }
     ensures { λ _. ⌜ (now (marks .exit) ≡ set (now (marks .entry)) (x * 6 + 2) (i + 1)) × (now (flag .exit) ≡ flaggedAt (now (flag .entry)) x closes) ⌝ }
 {
     marks::write(marks, x, FOLLOWED, i + 1);
@@ -82,7 +82,7 @@ pub fn explore(
     marks: &mut [u16],
     flag: &mut [usize],
 ) -> Position
-    requires place { ⌜ (x < 2048) × (top < 2048) × (high < 65535) × (low < 65536) × (i < 3) × (y < 2048) ⌝ }
+    requires place { ⌜ (x < marksRoom) × (top < marksRoom) × (high < 65535) × (low < 65536) × (i < 3) × (y < marksRoom) ⌝ }
     requires room { ⌜ (markWords ≤ length (now marks)) × (x < length (now flag)) ⌝ }
     ensures { λ r. ⌜ ((G : Graph) (ta ls : List ℕ) → AtLoopLink G x y i refers ta (now (marks .entry)) → view (r .place) (r .len) ta (now (marks .exit)) (now (flag .exit)) ls ≡ transition G (view (Searching k x top high low) len ta (now (marks .entry)) (now (flag .entry)) ls)) ⌝ }
     ensures kept { λ r. ⌜ r .len ≡ len ⌝ }

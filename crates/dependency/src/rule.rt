@@ -11,7 +11,7 @@ ghost use Rattle.graph.specs.declared.Place.the-variants.{Resolving, Starting, 
 ghost use Rattle.ad.specs.Stored.{nodeCount};
 ghost use Rattle.links.specs.Pair.{pairGraph};
 ghost use Rattle.links.specs.Inner.Asked.{Formed, Measured, Fingerprints};
-ghost use Rattle.marks.specs.Inner.Memory.{view, markWords, Flagged, Roomy, Grows};
+ghost use Rattle.marks.specs.Inner.Memory.{view, markWords, Flagged, Roomy, Grows, marksRoom};
 ghost use Rattle.dependency.specs.Inner.Asked.{PlaceFits, FlaggedFrom};
 
 // The transition that resolves the node of index i.
@@ -28,7 +28,7 @@ fn resolving(
     target: &mut [usize],
 ) -> Position
     requires ads { ⌜ Measured (now «first_words») (p .nodes) (p .definitions) × Measured (now «second_words») (q .nodes) (q .definitions) × Fingerprints (now «first_words») (now «first_bytes») (now «second_words») (now «second_bytes») (now prints) ⌝ }
-    requires room { ⌜ (i < nodeCount (now «first_words») + nodeCount (now «second_words»)) × (2048 ≤ length (now target)) ⌝ }
+    requires room { ⌜ (i < nodeCount (now «first_words») + nodeCount (now «second_words»)) × (marksRoom ≤ length (now target)) ⌝ }
     ensures { λ r. ⌜ ((ma fl ls : List ℕ) → view (r .place) (r .len) (now (target .exit)) ma fl ls ≡ transition (pairGraph (now («first_words» .entry)) (now («first_bytes» .entry)) (now («second_words» .entry)) (now («second_bytes» .entry))) (view (Resolving i) len (now (target .entry)) ma fl ls)) ⌝ }
     ensures kept { λ r. ⌜ r .len ≡ len ⌝ }
 {
@@ -83,8 +83,8 @@ fn searching(
     flag: &mut [usize],
 ) -> Position
     requires ads { ⌜ Measured (now «first_words») (p .nodes) (p .definitions) × Measured (now «second_words») (q .nodes) (q .definitions) ⌝ }
-    requires place { ⌜ (x < 2048) × (top < 2048) × (k < nodeCount (now «first_words») + nodeCount (now «second_words»)) × (high < 65535) × (low < 65536) ⌝ }
-    requires room { ⌜ (2048 ≤ length (now target)) × (markWords ≤ length (now marks)) × (2048 ≤ length (now flag)) ⌝ }
+    requires place { ⌜ (x < marksRoom) × (top < marksRoom) × (k < nodeCount (now «first_words») + nodeCount (now «second_words»)) × (high < 65535) × (low < 65536) ⌝ }
+    requires room { ⌜ (marksRoom ≤ length (now target)) × (markWords ≤ length (now marks)) × (marksRoom ≤ length (now flag)) ⌝ }
     ensures { λ r. ⌜ ((b c ls : List ℕ) → view (r .place) (r .len) (now (target .entry)) (now (marks .exit)) (now (flag .exit)) ls ≡ transition (pairGraph (now («first_words» .entry)) b (now («second_words» .entry)) c) (view (Searching k x top high low) len (now (target .entry)) (now (marks .entry)) (now (flag .entry)) ls)) ⌝ }
     ensures kept { λ r. ⌜ r .len ≡ len ⌝ }
     ensures flags { λ r. ⌜ Flagged x (now (flag .entry)) (now (flag .exit)) ⌝ }
@@ -100,7 +100,7 @@ fn searching(
 
 // The transition that begins list search k.
 fn between(roots: &[usize], k: usize, len: usize, marks: &mut [u16]) -> Position
-    requires { ⌜ (k < length (now roots)) × (length (now roots) ≤ 4) × ((i : ℕ) → i < length (now roots) → getD (now roots) i 0 < 2048) × (markWords ≤ length (now marks)) ⌝ }
+    requires { ⌜ (k < length (now roots)) × (length (now roots) ≤ 4) × ((i : ℕ) → i < length (now roots) → getD (now roots) i 0 < marksRoom) × (markWords ≤ length (now marks)) ⌝ }
     ensures { λ r. ⌜ ((v b w c ta fl ls : List ℕ) → now (roots .entry) ≡ pairGraph v b w c .roots → view (r .place) (r .len) ta (now (marks .exit)) fl ls ≡ transition (pairGraph v b w c) (view (Between k) len ta (now (marks .entry)) fl ls)) ⌝ }
     ensures kept { λ r. ⌜ r .len ≡ len ⌝ }
 {
@@ -120,7 +120,7 @@ fn inside(
     flag: &[usize],
     list: &mut [u64],
 ) -> Position
-    requires ads { ⌜ Formed (now «first_words») × Formed (now «second_words») × (x < 2048) × (k < 4) ⌝ }
+    requires ads { ⌜ Formed (now «first_words») × Formed (now «second_words») × (x < marksRoom) × (k < 4) ⌝ }
     requires room { ⌜ Roomy (now target) (now marks) (now flag) (now list) × (len < length (now list)) ⌝ }
     ensures { λ r. ⌜ ((b c : List ℕ) → view (r .place) (r .len) (now (target .entry)) (now (marks .exit)) (now (flag .entry)) (now (list .exit)) ≡ transition (pairGraph (now («first_words» .entry)) b (now («second_words» .entry)) c) (view (Inside k x) len (now (target .entry)) (now (marks .entry)) (now (flag .entry)) (now (list .entry)))) ⌝ }
     ensures room { λ r. ⌜ Grows len (r .len) (now (list .entry)) (now (list .exit)) ⌝ }

@@ -5,7 +5,7 @@ ghost use Prim.Native.Nat.{ℕ, _+_, _-_, _≤_, _<_};
 ghost use lib.ListN.{length, getD};
 ghost use Rattle.syntax.specs.Bounds.{maxNodes};
 ghost use Rattle.ad.specs.Layout.{adWords};
-ghost use Rattle.links.specs.Pair.{pairGraph};
+ghost use Rattle.links.specs.Pair.{pairGraph, pairSlots};
 ghost use Rattle.slots.specs.Packed.{slotAt};
 ghost use Rattle.nodes.specs.Nodes.{valueIn};
 ghost use Rattle.evaluation.specs.Evaluation.{nodeFrom, nodeAt, ruleAt, seen, needed, entries, Stepped, RunTo};
@@ -38,7 +38,7 @@ fn node_from(second: bool, words: &[u64], i: usize) -> Node
 
 // The node x.
 fn node_at(first_words: &[u64], second_words: &[u64], x: usize) -> Node
-    requires { ⌜ (x < 2048) × (adWords ≤ length (now «first_words»)) × (adWords ≤ length (now «second_words»)) ⌝ }
+    requires { ⌜ (x < pairSlots) × (adWords ≤ length (now «first_words»)) × (adWords ≤ length (now «second_words»)) ⌝ }
     ensures { λ r. ⌜ r ≡ nodeAt (now («first_words» .entry)) (now («second_words» .entry)) x ⌝ }
 {
     if x < syntax::NODES {

@@ -19,6 +19,10 @@ use Rattle.ad.specs.Stored.{kindAt, nodeCount, isOwn, isOther, isReference, ope
 abbrev pub numbered : Bool → ℕ → ℕ
 numbered second y = cond second (maxNodes + y) y
 
+-- how many slots the nodes of two ads have: 'Every node of each side has its own slot, 1,024 a side.'
+abbrev pub pairSlots : ℕ
+pairSlots = maxNodes + maxNodes
+
 -- the number of the node that a link goes to, from the second side or the first. A link is said from its own side: whether it goes to
 -- the other ad, and to which node there
 abbrev pub linked : Bool → (Bool × ℕ) → ℕ
@@ -68,7 +72,7 @@ unfoldable pub pairGraph : (v b w c : List ℕ) → Graph
 pairGraph v b w c = record {
   size = nodeCount v + nodeCount w;
   node = both (λ i. ltb i (nodeCount v)) (λ i. ltb i (nodeCount w));
-  slots = maxNodes + maxNodes;
+  slots = pairSlots;
   nth = λ i. cond (ltb i (nodeCount v)) i (maxNodes + (i - nodeCount v));
   links = both (λ i. map (linked false) (linksFrom v b w c i)) (λ i. map (linked true) (linksFrom w c v b i));
   ref = both (refersAt v) (refersAt w);

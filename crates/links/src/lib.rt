@@ -11,11 +11,12 @@ ghost use Rattle.syntax.specs.Bounds.{maxNodes};
 ghost use Rattle.ad.specs.Layout.{adWords};
 ghost use Rattle.graph.specs.Transition.{led, needed, marked};
 ghost use Rattle.ad.specs.Stored.{kindAt, operandAt, nodeCount, isReference};
-ghost use Rattle.links.specs.Pair.{linked, linksFrom, both, pairGraph};
+ghost use Rattle.links.specs.Pair.{linked, linksFrom, both, pairGraph, pairSlots};
 ghost use Rattle.links.specs.Inner.Asked.{unmarked, Formed, Measured, Stands, RootMarks, Printed, Fingerprints};
 ghost use Rattle.graph.specs.Members.{numbers, raised};
 
-const SLOTS: usize = 2048;
+// A slot for each node of two ads.
+pub const SLOTS: usize = 2 * syntax::NODES;
 
 // How many nodes and definitions an ad has.
 pub struct Counts {
@@ -37,7 +38,7 @@ pub fn measure(words: &[u64]) -> Counts
 
 // The kind of the node x.
 fn kind_of(first_words: &[u64], second_words: &[u64], x: usize) -> u64
-    requires { ⌜ (x < 2048) × (adWords ≤ length (now «first_words»)) × (adWords ≤ length (now «second_words»)) ⌝ }
+    requires { ⌜ (x < pairSlots) × (adWords ≤ length (now «first_words»)) × (adWords ≤ length (now «second_words»)) ⌝ }
     ensures { λ r. ⌜ r ≡ both (kindAt (now («first_words» .entry))) (kindAt (now («second_words» .entry))) x ⌝ }
 {
     if x < syntax::NODES {
@@ -48,7 +49,7 @@ fn kind_of(first_words: &[u64], second_words: &[u64], x: usize) -> u64
 
 // The number of the node x's operand i.
 fn operand_of(first_words: &[u64], second_words: &[u64], x: usize, i: usize) -> usize
-    requires { ⌜ (x < 2048) × (i < 3) × (adWords ≤ length (now «first_words»)) × (adWords ≤ length (now «second_words»)) × (maxNodes ≤ x → operandAt (now «second_words») (x - maxNodes) i < maxNodes) ⌝ }
+    requires { ⌜ (x < pairSlots) × (i < 3) × (adWords ≤ length (now «first_words»)) × (adWords ≤ length (now «second_words»)) × (maxNodes ≤ x → operandAt (now «second_words») (x - maxNodes) i < maxNodes) ⌝ }
     ensures { λ r. ⌜ r ≡ both (λ j. operandAt (now («first_words» .entry)) j i) (λ j. maxNodes + operandAt (now («second_words» .entry)) j i) x ⌝ }
 {
     if x < syntax::NODES {
@@ -59,7 +60,7 @@ fn operand_of(first_words: &[u64], second_words: &[u64], x: usize, i: usize) -> 
 
 // How many nodes x leads to, by its marks; a slot that is no node leads nowhere.
 pub fn led_count(first_words: &[u64], second_words: &[u64], target: &[usize], x: usize) -> usize
-    requires { ⌜ Formed (now «first_words») × Formed (now «second_words») × (x < 2048) × (x < length (now target)) ⌝ }
+    requires { ⌜ Formed (now «first_words») × Formed (now «second_words») × (x < pairSlots) × (x < length (now target)) ⌝ }
     ensures { λ r. ⌜ ((b c : List ℕ) → r ≡ length (led (pairGraph (now («first_words» .entry)) b (now («second_words» .entry)) c) (numbers (now (target .entry))) x)) ⌝ }
     ensures few { λ r. ⌜ r ≤ 3 ⌝ }
 {
@@ -84,9 +85,9 @@ pub fn led_to(
     x: usize,
     i: usize,
 ) -> usize
-    requires { ⌜ Formed (now «first_words») × Formed (now «second_words») × (x < 2048) × (x < length (now target)) × ((b c : List ℕ) → i < length (led (pairGraph (now «first_words») b (now «second_words») c) (numbers (now target)) x)) ⌝ }
+    requires { ⌜ Formed (now «first_words») × Formed (now «second_words») × (x < pairSlots) × (x < length (now target)) × ((b c : List ℕ) → i < length (led (pairGraph (now «first_words») b (now «second_words») c) (numbers (now target)) x)) ⌝ }
     ensures { λ r. ⌜ ((b c : List ℕ) → r ≡ getD (led (pairGraph (now («first_words» .entry)) b (now («second_words» .entry)) c) (numbers (now (target .entry))) x) i 0) ⌝ }
-    ensures small { λ r. ⌜ r < 2048 ⌝ }
+    ensures small { λ r. ⌜ r < pairSlots ⌝ }
 {
     let kind = kind_of(first_words, second_words, x);
     if ad::is_reference(kind) {
@@ -103,7 +104,7 @@ pub fn need_count(
     flag: &[usize],
     x: usize,
 ) -> usize
-    requires { ⌜ Formed (now «first_words») × Formed (now «second_words») × (x < 2048) × (x < length (now target)) × (x < length (now flag)) ⌝ }
+    requires { ⌜ Formed (now «first_words») × Formed (now «second_words») × (x < pairSlots) × (x < length (now target)) × (x < length (now flag)) ⌝ }
     ensures { λ r. ⌜ ((b c : List ℕ) → r ≡ length (needed (pairGraph (now («first_words» .entry)) b (now («second_words» .entry)) c) (numbers (now (target .entry))) (raised (now (flag .entry))) x)) ⌝ }
     ensures few { λ r. ⌜ r ≤ 3 ⌝ }
 {
@@ -115,7 +116,7 @@ pub fn need_count(
 
 // Whether the node x is a reference.
 pub fn refers(first_words: &[u64], second_words: &[u64], x: usize) -> bool
-    requires { ⌜ Formed (now «first_words») × Formed (now «second_words») × (x < 2048) ⌝ }
+    requires { ⌜ Formed (now «first_words») × Formed (now «second_words») × (x < pairSlots) ⌝ }
     ensures { λ r. ⌜ ((b c : List ℕ) → r ≡ pairGraph (now («first_words» .entry)) b (now («second_words» .entry)) c .ref x) ⌝ }
 {
     let kind = kind_of(first_words, second_words, x);
@@ -124,7 +125,7 @@ pub fn refers(first_words: &[u64], second_words: &[u64], x: usize) -> bool
 
 // The node of index i; the first ad has n.
 pub fn node_at(n: usize, i: usize) -> usize
-    requires { ⌜ i < 2048 ⌝ }
+    requires { ⌜ i < pairSlots ⌝ }
     ensures { λ r. ⌜ r ≡ cond (ltb i n) i (maxNodes + (i - n)) ⌝ }
 {
     if i < n {

@@ -41,7 +41,7 @@ pub fn resolve(
 
 // List search k begins at y, unless y is in the list already.
 pub fn begin(k: usize, y: usize, len: usize, marks: &mut [u16]) -> Position
-    requires { ⌜ (k < 4096) × (y < 2048) × (markWords ≤ length (now marks)) ⌝ }
+    requires { ⌜ (k < 4096) × (y < marksRoom) × (markWords ≤ length (now marks)) ⌝ }
     ensures { λ r. ⌜ ((G : Graph) (ta fl ls : List ℕ) → AtStart G k y → view (r .place) (r .len) ta (now (marks .exit)) fl ls ≡ transition G (view (Between k) len ta (now (marks .entry)) fl ls)) ⌝ }
     ensures kept { λ r. ⌜ r .len ≡ len ⌝ }
 {
@@ -60,7 +60,7 @@ pub fn begin(k: usize, y: usize, len: usize, marks: &mut [u16]) -> Position
 
 // List search k is at x, and follows its need i, to y: the need is done with if y was seen, and otherwise y is entered.
 pub fn follow(k: usize, x: usize, y: usize, i: usize, len: usize, marks: &mut [u16]) -> Position
-    requires { ⌜ (x < 2048) × (y < 2048) × (i < 3) × (markWords ≤ length (now marks)) ⌝ }
+    requires { ⌜ (x < marksRoom) × (y < marksRoom) × (i < 3) × (markWords ≤ length (now marks)) ⌝ }
     ensures { λ r. ⌜ ((G : Graph) (ta fl ls : List ℕ) → AtLink G x y i ta (now (marks .entry)) fl → view (r .place) (r .len) ta (now (marks .exit)) fl ls ≡ transition G (view (Inside k x) len ta (now (marks .entry)) fl ls)) ⌝ }
     ensures kept { λ r. ⌜ r .len ≡ len ⌝ }
 {
@@ -92,7 +92,7 @@ fn back_from(k: usize, f: usize) -> Place
 
 // An entry of the list.
 fn entry(x: usize) -> u64
-    requires { ⌜ x < 2048 ⌝ }
+    requires { ⌜ x < marksRoom ⌝ }
     ensures { λ r. ⌜ r ≡ x + 1 ⌝ }
 {
     (x + 1) as u64
@@ -100,7 +100,7 @@ fn entry(x: usize) -> u64
 
 // List search k leaves x, which has no need left and was entered from f, and writes its entry.
 pub fn leave(k: usize, x: usize, f: usize, len: usize, list: &mut [u64]) -> Position
-    requires { ⌜ (k < 4096) × (x < 2048) × (len < length (now list)) ⌝ }
+    requires { ⌜ (k < 4096) × (x < marksRoom) × (len < length (now list)) ⌝ }
     ensures rule { λ r. ⌜ ((G : Graph) (ta ma fl : List ℕ) → AtLast G x f ta ma fl → view (r .place) (r .len) ta ma fl (now (list .exit)) ≡ transition G (view (Inside k x) len ta ma fl (now (list .entry)))) ⌝ }
     ensures room { λ r. ⌜ Grows len (r .len) (now (list .entry)) (now (list .exit)) ⌝ }
 {

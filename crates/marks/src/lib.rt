@@ -44,7 +44,7 @@ fn wide(x: u16) -> usize
 
 // Mark j of the node x.
 pub fn read(marks: &[u16], x: usize, j: usize) -> usize
-    requires { ⌜ (x < 2048) × (j < 6) × (markWords ≤ length (now marks)) ⌝ }
+    requires { ⌜ (x < marksRoom) × (j < 6) × (markWords ≤ length (now marks)) ⌝ }
     ensures { λ r. ⌜ r ≡ markAt (now (marks .entry)) j x ⌝ }
 {
     wide(marks[x * PER_NODE + j])
@@ -52,7 +52,7 @@ pub fn read(marks: &[u16], x: usize, j: usize) -> usize
 
 // How many links of the node x were followed.
 pub fn followed(marks: &[u16], x: usize) -> usize
-    requires { ⌜ (x < 2048) × (markWords ≤ length (now marks)) ⌝ }
+    requires { ⌜ (x < marksRoom) × (markWords ≤ length (now marks)) ⌝ }
     ensures { λ r. ⌜ r ≡ markAt (now (marks .entry)) 2 x ⌝ }
 {
     read(marks, x, FOLLOWED)
@@ -60,7 +60,7 @@ pub fn followed(marks: &[u16], x: usize) -> usize
 
 // From which node x was entered: one more than that, 0 for none.
 pub fn entered_from(marks: &[u16], x: usize) -> usize
-    requires { ⌜ (x < 2048) × (markWords ≤ length (now marks)) ⌝ }
+    requires { ⌜ (x < marksRoom) × (markWords ≤ length (now marks)) ⌝ }
     ensures { λ r. ⌜ r ≡ markAt (now (marks .entry)) 1 x ⌝ }
 {
     read(marks, x, FROM)
@@ -69,7 +69,7 @@ pub fn entered_from(marks: &[u16], x: usize) -> usize
 // The mark, or 0 where it names no slot: any mark, right or wrong, then names a node with marks or none.
 pub fn in_slots(mark: usize) -> usize
     ensures { λ r. ⌜ ((G : Graph) → G .slots ≡ marksRoom → named G r ≡ named G mark) ⌝ }
-    ensures small { λ r. ⌜ r ≤ 2048 ⌝ }
+    ensures small { λ r. ⌜ r ≤ marksRoom ⌝ }
 {
     if SLOTS < mark {
         return 0;
@@ -79,7 +79,7 @@ pub fn in_slots(mark: usize) -> usize
 
 // Mark j of the node x becomes a.
 pub fn write(marks: &mut [u16], x: usize, j: usize, a: usize)
-    requires { ⌜ (x < 2048) × (j < 6) × (a < 65536) × (markWords ≤ length (now marks)) ⌝ }
+    requires { ⌜ (x < marksRoom) × (j < 6) × (a < 65536) × (markWords ≤ length (now marks)) ⌝ }
     ensures { λ _. ⌜ now (marks .exit) ≡ set (now (marks .entry)) (x * 6 + j) a ⌝ }
 {
     marks[x * PER_NODE + j] = a as u16;
@@ -87,7 +87,7 @@ pub fn write(marks: &mut [u16], x: usize, j: usize, a: usize)
 
 // The node y is entered from p, by a search with the stamp t; none of its links was followed.
 pub fn enter(marks: &mut [u16], y: usize, t: usize, p: usize)
-    requires { ⌜ (y < 2048) × (t < 65536) × (p < 65536) × (markWords ≤ length (now marks)) ⌝ }
+    requires { ⌜ (y < marksRoom) × (t < 65536) × (p < 65536) × (markWords ≤ length (now marks)) ⌝ }
     ensures { λ _. ⌜ now (marks .exit) ≡ fill (now (marks .entry)) y 0 (t ∷ p ∷ 0 ∷ []) ⌝ }
 {
     write(marks, y, STAMP, t);
@@ -97,7 +97,7 @@ pub fn enter(marks: &mut [u16], y: usize, t: usize, p: usize)
 
 // The node y is open at the height h, above b, and low is saved with it.
 pub fn put_on(marks: &mut [u16], y: usize, h: usize, b: usize, low: usize)
-    requires { ⌜ (y < 2048) × (h < 65536) × (b < 65536) × (low < 65536) × (markWords ≤ length (now marks)) ⌝ }
+    requires { ⌜ (y < marksRoom) × (h < 65536) × (b < 65536) × (low < 65536) × (markWords ≤ length (now marks)) ⌝ }
     ensures { λ _. ⌜ now (marks .exit) ≡ fill (now (marks .entry)) y 3 (h ∷ b ∷ low ∷ []) ⌝ }
 {
     write(marks, y, HEIGHT, h);

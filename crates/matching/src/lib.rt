@@ -4,10 +4,11 @@ ghost use mathlib.Core.Path.{_≡_};
 ghost use lib.ListN.{length, replicate};
 ghost use Rattle.links.specs.Inner.Asked.{Formed};
 ghost use Rattle.dependency.specs.Inner.Asked.{Ready};
-ghost use Rattle.matching.specs.Matching.{Match, Matched};
+ghost use Rattle.admission.specs.Admission.{listWords};
+ghost use Rattle.matching.specs.Matching.{tableWords, Match, Matched};
 
-// 2,048 values of two words, and 2,048 entries.
-const VALUES: usize = 4096;
+// Two words for each slot.
+const VALUES: usize = 2 * links::SLOTS;
 
 // What a match answers: a refusal's number and place; verdict, both ranks and steps of a finished one; or the steps done. The last
 // number is how many transitions its traversal took.
@@ -30,7 +31,7 @@ fn match_marked(
     budget: u16,
 ) -> Outcome
     requires ready { ⌜ Ready (now «first_words») (now «second_words») (now target) (now flag) (now list) ⌝ }
-    requires room { ⌜ (length (now list) ≡ 2048) × (now table ≡ replicate 4096 0) ⌝ }
+    requires room { ⌜ (length (now list) ≡ listWords) × (now table ≡ replicate tableWords 0) ⌝ }
     ensures { λ r. ⌜ Match (now («first_words» .entry)) (now («first_bytes» .entry)) (now («second_words» .entry)) (now («second_bytes» .entry)) budget (now (table .exit)) (now (list .exit)) r ⌝ }
 {
     let t = dependency::traverse(
@@ -79,13 +80,13 @@ fn match_formed(
     list: &mut [u64],
     budget: u16,
 ) -> Outcome
-    requires { ⌜ Formed (now «first_words») × Formed (now «second_words») × (length (now table) ≡ 4096) × (length (now list) ≡ 2048) ⌝ }
+    requires { ⌜ Formed (now «first_words») × Formed (now «second_words») × (length (now table) ≡ tableWords) × (length (now list) ≡ listWords) ⌝ }
     ensures { λ r. ⌜ Match (now («first_words» .entry)) (now («first_bytes» .entry)) (now («second_words» .entry)) (now («second_bytes» .entry)) budget (now (table .exit)) (now (list .exit)) r ⌝ }
 {
     ad::clear_words(table);
     ad::clear_words(list);
-    let mut target = [0usize; 2048];
-    let mut flag = [0usize; 2048];
+    let mut target = [0usize; links::SLOTS];
+    let mut flag = [0usize; links::SLOTS];
     match_marked(
         first_words,
         first_bytes,
