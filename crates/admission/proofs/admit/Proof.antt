@@ -16,7 +16,8 @@ returns-3 : tie.Need-returns-3
 returns-3 c =
     let b3 = c .before .before .before in
     second-malformed (sym (b3 .before .before .too-small .ensures) ∙ b3 .before .if1 .left)
-    (b3 .malformed .ensures .1 (c .before .before .if2 .left)) (c .before .malformed2 .ensures .0 (c .if3 .taken))
+    (b3 .malformed .ensures .1 (c .before .before .if2 .left))
+    (c .before .malformed2 .ensures .0 (c .if3 .taken))
 
 returns-4 : tie.Need-returns-4
 returns-4 c =

@@ -31,8 +31,9 @@ loop-holds c =
     let e-first-position = c .first-position in
     let s = c .before .before .before .before .before .before .before .before .before .before
     .before .before .before in
-    turn-first (now (s .args .first-bytes)) (now (s .args .second-bytes)) (s .pre .0 .0) (s .pre .0 .1) (s .pre .0 .2)
-    (s .pre .1 .0) (s .pre .1 .1) refl (e-first-position .ensures .0) (e-first-position .ensures .1)
+    turn-first (now (s .args .first-bytes)) (now (s .args .second-bytes)) (s .pre .0 .0)
+    (s .pre .0 .1) (s .pre .0 .2) (s .pre .1 .0) (s .pre .1 .1) refl (e-first-position .ensures .0)
+    (e-first-position .ensures .1)
 
 same-length : tie.Need-same-length Inv-loop μ-loop
 same-length c = let e-loop = c .before .before .loop in e-loop .inv .ta-same

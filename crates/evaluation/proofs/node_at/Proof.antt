@@ -7,13 +7,14 @@ use Rattle.evaluation.proofs.node_at.Tie as tie
 returns : tie.Need-returns
 returns c =
     let args = c .before .before .before .before .args in
-    node-first (now (args .first-words)) (now (args .second-words)) (args .x) (c .before .if1 .taken)
-    (c .node-from .ensures)
+    node-first (now (args .first-words)) (now (args .second-words)) (args .x)
+    (c .before .if1 .taken) (c .node-from .ensures)
 
 returns-2 : tie.Need-returns-2
 returns-2 c =
     let args = c .before .before .before .before .args in
-    node-second (now (args .first-words)) (now (args .second-words)) (args .x) (search needs) (c .node-from2 .ensures)
+    node-second (now (args .first-words)) (now (args .second-words)) (args .x) (search needs)
+    (c .node-from2 .ensures)
 
 pub node-at-spec : {M : Type 1} → statement M
 node-at-spec = tie.close (tie.spec

@@ -16,7 +16,8 @@ abbrev μ-loop : tie.MeasureT-loop
 returns : tie.Need-returns Inv-loop μ-loop
 returns c =
     let start = c .before .before .before .before .before .before .before .before .before in
-    turn-none (start .pre) (now (start .args .first-bytes)) (now (start .args .second-bytes)) (c .if1 .taken)
+    turn-none (start .pre) (now (start .args .first-bytes)) (now (start .args .second-bytes))
+    (c .if1 .taken)
 
 loop-holds : tie.Need-loop-holds Inv-loop μ-loop
 loop-holds c =

@@ -13,8 +13,8 @@ node-at-requires : tie.Need-node-at-requires
 node-at-requires c κs =
     let start = c .before .before .before .before .before .before .before .before .before .before
     .before .before .before in (
-      stands-small (now (start .args .first-words)) (now (start .args .second-words)) (start .args .x)
-          (start .pre .node),
+      stands-small (now (start .args .first-words)) (now (start .args .second-words))
+          (start .args .x) (start .pre .node),
       start .pre .first-formed .words-room,
       start .pre .second-formed .words-room,
     )
@@ -27,13 +27,14 @@ returns c =
     .before .args in
     let b = args .first-bytes in
     let c' = args .second-bytes in
-    step-stored (needed (pairGraph (now (args .first-words)) (now b) (now (args .second-words)) (now c'))
-    (now (args .target)) (now (args .flag)))
-    (ruleAt (now (args .first-words)) (now b) (now (args .second-words)) (now c')) (rule-of (now (args .first-words)) (now b)
-    (now (args .second-words)) (now c') (args .x) (map (λ y. seen (slotAt (now (args .table)) y)) (needed
-    (pairGraph (now (args .first-words)) (now b) (now (args .second-words)) (now c')) (now (args .target))
-    (now (args .flag)) (args .x))) (b4 .apply .ensures) (b4 .before .node-at .ensures)
-    (b8 .before .before .need-value .ensures (now b) (now c'))
+    step-stored (needed (pairGraph (now (args .first-words)) (now b) (now (args .second-words))
+    (now c')) (now (args .target)) (now (args .flag)))
+    (ruleAt (now (args .first-words)) (now b) (now (args .second-words)) (now c')) (rule-of
+    (now (args .first-words)) (now b) (now (args .second-words)) (now c') (args .x) (map
+    (λ y. seen (slotAt (now (args .table)) y)) (needed
+    (pairGraph (now (args .first-words)) (now b) (now (args .second-words)) (now c'))
+    (now (args .target)) (now (args .flag)) (args .x))) (b4 .apply .ensures)
+    (b4 .before .node-at .ensures) (b8 .before .before .need-value .ensures (now b) (now c'))
     (b8 .need-value2 .ensures (now b) (now c'))
     (b4 .before .before .need-value3 .ensures (now b) (now c'))) (c .before .before .store .ensures)
 

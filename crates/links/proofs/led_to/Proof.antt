@@ -15,8 +15,8 @@ sub-result : tie.Need-sub-result
 sub-result c =
     let b2 = c .before .before in
     let start = b2 .before .before .before .before .before in
-    let h = to-some (now (start .args .first-words)) [] (now (start .args .second-words)) [] (start .args .x)
-    (start .pre .0) (start .pre .1) (start .pre .2) (b2 .before .kind-of .ensures)
+    let h = to-some (now (start .args .first-words)) [] (now (start .args .second-words)) []
+    (start .args .x) (start .pre .0) (start .pre .1) (start .pre .2) (b2 .before .kind-of .ensures)
     (b2 .is-reference .ensures) (now (start .args .target)) (start .args .i) (c .before .if1 .taken)
     (start .pre .4 [] []) .0 in
     search needs
@@ -27,12 +27,12 @@ returns c =
     let start = b2 .before .before .before .before .before in
     let args = start .args in
     let pre = start .pre in (
-      λ b d. to-target (now (args .first-words)) b (now (args .second-words)) d (args .x) (pre .0) (pre .1) (pre .2)
-          (b2 .before .kind-of .ensures) (b2 .is-reference .ensures) (now (args .target)) (args .i)
-          (c .before .if1 .taken) (pre .4 b d),
-      let k = to-some (now (args .first-words)) [] (now (args .second-words)) [] (args .x) (pre .0) (pre .1) (pre .2)
-          (b2 .before .kind-of .ensures) (b2 .is-reference .ensures) (now (args .target)) (args .i)
-          (c .before .if1 .taken) (pre .4 [] []) in
+      λ b d. to-target (now (args .first-words)) b (now (args .second-words)) d (args .x) (pre .0)
+          (pre .1) (pre .2) (b2 .before .kind-of .ensures) (b2 .is-reference .ensures)
+          (now (args .target)) (args .i) (c .before .if1 .taken) (pre .4 b d),
+      let k = to-some (now (args .first-words)) [] (now (args .second-words)) [] (args .x) (pre .0)
+          (pre .1) (pre .2) (b2 .before .kind-of .ensures) (b2 .is-reference .ensures)
+          (now (args .target)) (args .i) (c .before .if1 .taken) (pre .4 [] []) in
           search needs,
     )
 
@@ -42,14 +42,14 @@ operand-of-requires c κs =
     let args = b2 .before .before .before .before .args in
     let pre = b2 .before .before .before .before .pre in (
       pre .2,
-      to-few (now (args .first-words)) [] (now (args .second-words)) [] (args .x) (pre .0) (pre .1) (pre .2)
-          (b2 .kind-of .ensures) (c .before .is-reference .ensures) (now (args .target)) (args .i)
-          (c .if1 .left) (pre .4 [] []),
+      to-few (now (args .first-words)) [] (now (args .second-words)) [] (args .x) (pre .0) (pre .1)
+          (pre .2) (b2 .kind-of .ensures) (c .before .is-reference .ensures) (now (args .target))
+          (args .i) (c .if1 .left) (pre .4 [] []),
       pre .0 .words-room,
       pre .1 .words-room,
-      to-below (now (args .first-words)) [] (now (args .second-words)) [] (args .x) (pre .0) (pre .1) (pre .2)
-          (b2 .kind-of .ensures) (c .before .is-reference .ensures) (now (args .target)) (args .i)
-          (c .if1 .left) (pre .4 [] []),
+      to-below (now (args .first-words)) [] (now (args .second-words)) [] (args .x) (pre .0)
+          (pre .1) (pre .2) (b2 .kind-of .ensures) (c .before .is-reference .ensures)
+          (now (args .target)) (args .i) (c .if1 .left) (pre .4 [] []),
     )
 
 returns-2 : tie.Need-returns-2
@@ -58,12 +58,14 @@ returns-2 c =
     let start = b2 .before .before .before .before .before in
     let args = start .args in
     let pre = start .pre in (
-      λ b d. to-operand (now (args .first-words)) b (now (args .second-words)) d (args .x) (pre .0) (pre .1) (pre .2)
-          (b2 .before .kind-of .ensures) (b2 .is-reference .ensures) (now (args .target)) (args .i)
-          (c .before .if1 .left) (pre .4 b d) (c .operand-of .ensures),
-      to-small (now (args .first-words)) [] (now (args .second-words)) [] (args .x) (pre .0) (pre .1) (pre .2)
-          (b2 .before .kind-of .ensures) (b2 .is-reference .ensures) (now (args .target)) (args .i)
-          (c .before .if1 .left) (pre .4 [] []) (c .operand-of .ensures),
+      λ b d. to-operand (now (args .first-words)) b (now (args .second-words)) d (args .x) (pre .0)
+          (pre .1) (pre .2) (b2 .before .kind-of .ensures) (b2 .is-reference .ensures)
+          (now (args .target)) (args .i) (c .before .if1 .left) (pre .4 b d)
+          (c .operand-of .ensures),
+      to-small (now (args .first-words)) [] (now (args .second-words)) [] (args .x) (pre .0)
+          (pre .1) (pre .2) (b2 .before .kind-of .ensures) (b2 .is-reference .ensures)
+          (now (args .target)) (args .i) (c .before .if1 .left) (pre .4 [] [])
+          (c .operand-of .ensures),
     )
 
 pub led-to-spec : {M : Type 1} → statement M

@@ -8,16 +8,16 @@ use Rattle.links.proofs.need_count.Tie as tie
 returns : tie.Need-returns
 returns c =
     let a = c .before .before .before .before .before .before .args in (
-      λ b d. need-none (pairGraph (now (a .first-words)) b (now (a .second-words)) d) (a .x) (now (a .target))
-          (now (a .flag)) (c .if1 .taken),
+      λ b d. need-none (pairGraph (now (a .first-words)) b (now (a .second-words)) d) (a .x)
+          (now (a .target)) (now (a .flag)) (c .if1 .taken),
       search needs,
     )
 
 returns-2 : tie.Need-returns-2
 returns-2 c =
     let a = c .before .before .before .before .before .before .before .args in (
-      λ b d. need-led (pairGraph (now (a .first-words)) b (now (a .second-words)) d) (a .x) (now (a .target))
-          (now (a .flag)) (c .before .if1 .left) (c .led-count .ensures .0 b d),
+      λ b d. need-led (pairGraph (now (a .first-words)) b (now (a .second-words)) d) (a .x)
+          (now (a .target)) (now (a .flag)) (c .before .if1 .left) (c .led-count .ensures .0 b d),
       c .led-count .ensures .1,
     )
 

@@ -7,8 +7,8 @@ use Rattle.links.proofs.operand_of.Tie as tie
 returns : tie.Need-returns
 returns c =
     let args = c .before .before .before .before .args in
-    operand-first (now (args .first-words)) (now (args .second-words)) (args .x) (args .i) (c .before .if1 .taken)
-    (c .operand .ensures)
+    operand-first (now (args .first-words)) (now (args .second-words)) (args .x) (args .i)
+    (c .before .if1 .taken) (c .operand .ensures)
 
 add-result : tie.Need-add-result
 add-result c = let h = c .before .before .before .before .pre .4 (search needs) in search needs
@@ -16,8 +16,8 @@ add-result c = let h = c .before .before .before .before .pre .4 (search needs) 
 returns-2 : tie.Need-returns-2
 returns-2 c =
     let args = c .before .before .before .before .args in
-    operand-second (now (args .first-words)) (now (args .second-words)) (args .x) (args .i) (search needs)
-    (c .operand2 .ensures)
+    operand-second (now (args .first-words)) (now (args .second-words)) (args .x) (args .i)
+    (search needs) (c .operand2 .ensures)
 
 pub operand-of-spec : {M : Type 1} → statement M
 operand-of-spec = tie.close (tie.spec

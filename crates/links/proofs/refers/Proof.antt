@@ -11,8 +11,8 @@ kind-of-requires c κs =
 returns : tie.Need-returns
 returns c =
     let s = c .before .before .before .before in
-    λ b d. ref-test (now (s .args .first-words)) b (now (s .args .second-words)) d (s .args .x) (s .pre .0) (s .pre .1)
-    (s .pre .2) (c .before .kind-of .ensures) (c .is-reference .ensures)
+    λ b d. ref-test (now (s .args .first-words)) b (now (s .args .second-words)) d (s .args .x)
+    (s .pre .0) (s .pre .1) (s .pre .2) (c .before .kind-of .ensures) (c .is-reference .ensures)
 
 pub refers-spec : {M : Type 1} → statement M
 refers-spec = tie.close (tie.spec

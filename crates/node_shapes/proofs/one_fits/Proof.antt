@@ -10,7 +10,9 @@ returns : tie.Need-returns
 returns c =
     let args = c .before .before .before .before .args in
     c .both3 .ensures
-    ∙ ands (c .before .before .both .ensures ∙ ap (_&&_ (leb (args .s) (args .x))) (c .before .before .before .follows .ensures)) (c .before .both2 .ensures)
+    ∙ ands (c .before .before .both .ensures
+    ∙ ap (_&&_ (leb (args .s) (args .x))) (c .before .before .before .follows .ensures))
+    (c .before .both2 .ensures)
 
 pub one-fits-spec : {M : Type 1} → statement M
 one-fits-spec = tie.close (tie.spec

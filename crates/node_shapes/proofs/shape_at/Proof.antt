@@ -9,8 +9,9 @@ returns c =
     let b4 = c .before .before .before .before in
     let args = b4 .before .before .args in
     c .shape-of .ensures
-    ∙ (λ m. shapeOf (args .s) (args .i) (b4 .kind .ensures m) (c .before .before .before .operand .ensures m)
-    (c .before .before .operand2 .ensures m) (c .before .operand3 .ensures m))
+    ∙ (λ m. shapeOf (args .s) (args .i) (b4 .kind .ensures m)
+    (c .before .before .before .operand .ensures m) (c .before .before .operand2 .ensures m)
+    (c .before .operand3 .ensures m))
 
 pub shape-at-spec : {M : Type 1} → statement M
 shape-at-spec =

@@ -10,7 +10,8 @@ returns : tie.Need-returns
 returns c =
     let args = c .before .before .before .before .args in
     c .both3 .ensures
-    ∙ ands (c .before .before .before .both .ensures) (c .before .both2 .ensures ∙ ap (_&&_ (ltb (args .y) (args .z))) (c .before .before .follows .ensures))
+    ∙ ands (c .before .before .before .both .ensures) (c .before .both2 .ensures
+    ∙ ap (_&&_ (ltb (args .y) (args .z))) (c .before .before .follows .ensures))
 
 pub three-fits-spec : {M : Type 1} → statement M
 three-fits-spec = tie.close (tie.spec

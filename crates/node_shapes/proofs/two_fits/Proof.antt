@@ -7,7 +7,8 @@ use Rattle.node_shapes.proofs.two_fits.Tie as tie
 returns : tie.Need-returns
 returns c =
     c .both3 .ensures
-    ∙ ands (c .before .before .before .both .ensures) (c .before .both2 .ensures ∙ ands (c .before .before .follows .ensures) refl)
+    ∙ ands (c .before .before .before .both .ensures)
+    (c .before .both2 .ensures ∙ ands (c .before .before .follows .ensures) refl)
 
 pub two-fits-spec : {M : Type 1} → statement M
 two-fits-spec = tie.close (tie.spec

@@ -6,7 +6,8 @@ use Rattle.nodes.proofs.node_of.Tie as tie
 returns : tie.Need-returns
 returns c =
     let args = c .before .before .args in
-    refers (args .second) (args .kind) (args .a) (args .b) (c .before .is-reference .ensures) (c .if1 .taken)
+    refers (args .second) (args .kind) (args .a) (args .b) (c .before .is-reference .ensures)
+    (c .if1 .taken)
 
 returns-2 : tie.Need-returns-2
 returns-2 c =
@@ -14,7 +15,8 @@ returns-2 c =
     let if1 = m .before .before .if1 in
     let test = m .before .before .before .is-reference in
     let args = m .before .before .before .before .args in
-    of-one (args .second) (args .kind) (args .a) (args .b) (test .ensures) (if1 .left) (m .before .arity .ensures) (m .match .keys1) (c .unary-of .ensures)
+    of-one (args .second) (args .kind) (args .a) (args .b) (test .ensures) (if1 .left)
+    (m .before .arity .ensures) (m .match .keys1) (c .unary-of .ensures)
 
 returns-3 : tie.Need-returns-3
 returns-3 c =
@@ -22,7 +24,8 @@ returns-3 c =
     let if1 = m .before .before .if1 in
     let test = m .before .before .before .is-reference in
     let args = m .before .before .before .before .args in
-    of-two (args .second) (args .kind) (args .a) (args .b) (test .ensures) (if1 .left) (m .before .arity .ensures) (m .match .keys2) (c .binary-of .ensures)
+    of-two (args .second) (args .kind) (args .a) (args .b) (test .ensures) (if1 .left)
+    (m .before .arity .ensures) (m .match .keys2) (c .binary-of .ensures)
 
 returns-4 : tie.Need-returns-4
 returns-4 c =
@@ -30,7 +33,8 @@ returns-4 c =
     let if1 = m .before .before .if1 in
     let test = m .before .before .before .is-reference in
     let args = m .before .before .before .before .args in
-    of-three (args .second) (args .kind) (args .a) (args .b) (test .ensures) (if1 .left) (m .before .arity .ensures) (m .match .keys3)
+    of-three (args .second) (args .kind) (args .a) (args .b) (test .ensures) (if1 .left)
+    (m .before .arity .ensures) (m .match .keys3)
 
 returns-5 : tie.Need-returns-5
 returns-5 c =
@@ -38,7 +42,8 @@ returns-5 c =
     let if1 = m .before .before .if1 in
     let test = m .before .before .before .is-reference in
     let args = m .before .before .before .before .args in
-    of-none (args .second) (args .kind) (args .a) (args .b) (test .ensures) (if1 .left) (m .before .arity .ensures) (m .match .rest) (c .constant-of .ensures)
+    of-none (args .second) (args .kind) (args .a) (args .b) (test .ensures) (if1 .left)
+    (m .before .arity .ensures) (m .match .rest) (c .constant-of .ensures)
 
 pub node-of-spec : {M : Type 1} → statement M
 node-of-spec =

@@ -28,8 +28,8 @@ returns c =
     let e-clear-words = at-e-clear-words .clear-words in
     let s = at-e-clear-words .before .before .before .before .before .before .before .before
     .before .before .before .before in
-    orders-of (now (s .args .first-words)) (now (s .args .first-bytes)) (now (s .args .second-words)) (now (s .args .second-bytes)) (let h =
-    s .pre .3 in
+    orders-of (now (s .args .first-words)) (now (s .args .first-bytes))
+    (now (s .args .second-words)) (now (s .args .second-bytes)) (let h = s .pre .3 in
     let k = e-traverse .kept .1 .1 .1 .1 .1 .1 .0 in
     let l = e-clear-words .kept .0 in
     omega arith) (e-traverse .ensures .0)

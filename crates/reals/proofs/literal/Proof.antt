@@ -18,13 +18,20 @@ returns-2 c = rw (lt-ltb _ (10 ^ 15) (c .before .if1 .left), lt-leb 1 _ (c .if2 
 returns-3 : tie.Need-returns-3
 unfolding Ieee.ofInt Ieee.ofBits
 returns-3 c =
-    rw (lt-ltb _ (10 ^ 15) (c .before .before .if1 .left), le-leb 1 _ (c .before .if2 .left), le-ltb _ 15 (c .if3 .taken)) refl
+    rw (
+      lt-ltb _ (10 ^ 15) (c .before .before .if1 .left),
+      le-leb 1 _ (c .before .if2 .left),
+      le-ltb _ 15 (c .if3 .taken),
+    ) refl
 
 returns-4 : tie.Need-returns-4
 returns-4 c =
     let b = c .before .before in
-    rw (lt-ltb _ (10 ^ 15) (b .before .if1 .left), le-leb 1 _ (b .if2 .left), lt-ltb _ 15 (c .before .if3 .left))
-    (c .quotient .ensures)
+    rw (
+      lt-ltb _ (10 ^ 15) (b .before .if1 .left),
+      le-leb 1 _ (b .if2 .left),
+      lt-ltb _ 15 (c .before .if3 .left),
+    ) (c .quotient .ensures)
 
 pub literal-spec : {M : Type 1} → statement M
 literal-spec = tie.close (tie.spec

@@ -21,12 +21,16 @@ returns c =
     let b6 = b3 .before .before .before in
     let args = b6 .before .args in
     let k = b6 .binds .ensures in
-    let first = b3 .before .before .around .ensures .0 ∙ (λ m. wrapLevel (k m) (args .b) (args .d)) in
-    let second = b3 .before .around2 .ensures .0 ∙ (λ m. wrapLevel (k m + 1) (args .b2) (args .d2)) in
+    let first = b3 .before .before .around .ensures .0
+    ∙ (λ m. wrapLevel (k m) (args .b) (args .d)) in
+    let second = b3 .before .around2 .ensures .0
+    ∙ (λ m. wrapLevel (k m + 1) (args .b2) (args .d2)) in
     let level = b3 .larger .ensures ∙ (λ m. max (first m) (second m)) in
-    let right = c .before .around3 .ensures .0 ∙ (λ m. wrapLength (k m + 1) (args .b2) (args .n2)) in
+    let right = c .before .around3 .ensures .0
+    ∙ (λ m. wrapLength (k m + 1) (args .b2) (args .n2)) in
     let left = c .around4 .ensures .0 ∙ (λ m. wrapLength (k m) (args .b) (args .n)) in
-    λ m. Tree (args .q) (k m) (level m) (left m + (c .before .before .operator-length .ensures .0 m + right m + 2))
+    λ m. Tree (args .q) (k m) (level m)
+    (left m + (c .before .before .operator-length .ensures .0 m + right m + 2))
 
 pub binary-walk-spec : {M : Type 1} → statement M
 binary-walk-spec =

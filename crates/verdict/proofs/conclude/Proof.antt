@@ -8,9 +8,10 @@ use Rattle.verdict.proofs.conclude.Tie as tie
 returns : tie.Need-returns
 returns c =
     let at-e-worth3 = c .before .before .before .before in
-    let at-e-worth = at-e-worth3 .before .before .before .before in
-    let x = at-e-worth3 .before .before .before .is-true .ensures ∙ ap isTrue (at-e-worth .worth .ensures) in
-    let y = at-e-worth3 .before .is-true2 .ensures ∙ ap isTrue (at-e-worth3 .before .before .worth2 .ensures) in (
+    let b5 = at-e-worth3 .before in
+    let at-e-worth = b5 .before .before .before in
+    let x = b5 .before .before .is-true .ensures ∙ ap isTrue (at-e-worth .worth .ensures) in
+    let y = b5 .is-true2 .ensures ∙ ap isTrue (b5 .before .worth2 .ensures) in (
       c .both .ensures ∙ (λ i. x i && y i),
       (
         c .before .before .before .rank-of .ensures ∙ ap rankOf (at-e-worth3 .worth3 .ensures),

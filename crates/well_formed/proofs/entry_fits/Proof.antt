@@ -14,9 +14,9 @@ returns : tie.Need-returns
 returns c =
     let b4 = c .before .before .before .before in
     let b8 = b4 .before .before .before .before in
-    let args = b8 .before .before .before .args in
-    let len = b8 .name-length .ensures in
     let root = b4 .before .before .before .root .ensures in
+    let len = b8 .name-length .ensures in
+    let args = b8 .before .before .before .args in
     c .both3 .ensures
     ∙ ands (c .before .before .both .ensures
     ∙ ands (b4 .stands .ensures

@@ -17,9 +17,9 @@ resolving-requires c κs =
     .before .before .before .before in (
       (s .pre .0 .0, s .pre .0 .1, s .pre .0 .3),
       (
-        fits-at (now (s .args .first-words)) (now (s .args .second-words)) (length (now (s .args .roots)))
-            ((s .args .s) .len) (now (s .args .list)) ((s .args .s) .place) (s .pre .1 .1)
-            (e-place .given .1),
+        fits-at (now (s .args .first-words)) (now (s .args .second-words))
+            (length (now (s .args .roots))) ((s .args .s) .len) (now (s .args .list))
+            ((s .args .s) .place) (s .pre .1 .1) (e-place .given .1),
         s .pre .1 .0 .target-room,
       ),
     )
@@ -31,9 +31,9 @@ starting-requires c κs =
     .before .before .before .before in (
       s .pre .0 .0,
       s .pre .0 .1,
-      fits-at (now (s .args .first-words)) (now (s .args .second-words)) (length (now (s .args .roots)))
-          ((s .args .s) .len) (now (s .args .list)) ((s .args .s) .place) (s .pre .1 .1)
-          (e-place2 .given .1),
+      fits-at (now (s .args .first-words)) (now (s .args .second-words))
+          (length (now (s .args .roots))) ((s .args .s) .len) (now (s .args .list))
+          ((s .args .s) .place) (s .pre .1 .1) (e-place2 .given .1),
       s .pre .1 .0 .marks-room,
     )
 
@@ -45,9 +45,9 @@ searching-requires c κs =
     .before .before .before in (
       (s .pre .0 .0, s .pre .0 .1),
       (
-        fits-at (now (s .args .first-words)) (now (s .args .second-words)) (length (now (s .args .roots)))
-            ((s .args .s) .len) (now (s .args .list)) ((s .args .s) .place) (s .pre .1 .1)
-            (e-place3 .given .1),
+        fits-at (now (s .args .first-words)) (now (s .args .second-words))
+            (length (now (s .args .roots))) ((s .args .s) .len) (now (s .args .list))
+            ((s .args .s) .place) (s .pre .1 .1) (e-place3 .given .1),
         (s .pre .1 .0 .target-room, s .pre .1 .0 .marks-room, s .pre .1 .0 .flag-room),
       ),
     )
@@ -66,9 +66,9 @@ close-requires c κs =
     let e-place4 = at-e-place4 .place4 in
     let s = at-e-place4 .before .before .before .before .before .before .before .before .before
     .before .before .before in
-    let f = fits-at (now (s .args .first-words)) (now (s .args .second-words)) (length (now (s .args .roots)))
-    ((s .args .s) .len) (now (s .args .list)) ((s .args .s) .place) (s .pre .1 .1)
-    (e-place4 .given .1) in
+    let f = fits-at (now (s .args .first-words)) (now (s .args .second-words))
+    (length (now (s .args .roots))) ((s .args .s) .len) (now (s .args .list)) ((s .args .s) .place)
+    (s .pre .1 .1) (e-place4 .given .1) in
     let h = nodes-few (s .pre .0 .0) (s .pre .0 .1) in
     let j = f .2 in
     (omega arith, f .0, f .1, s .pre .1 .0 .marks-room)
@@ -78,12 +78,13 @@ between-requires c κs =
     let e-place5 = c .before .before .place5 in
     let s = c .before .before .before .before .before .before .before .before .before .before
     .before .before .before .before in (
-      fits-at (now (s .args .first-words)) (now (s .args .second-words)) (length (now (s .args .roots)))
-          ((s .args .s) .len) (now (s .args .list)) ((s .args .s) .place) (s .pre .1 .1)
-          (e-place5 .given .1),
-      roots-few (now (s .args .first-bytes)) (now (s .args .second-bytes)) (s .pre .0 .0) (s .pre .0 .1) (s .pre .0 .2),
-      roots-small (now (s .args .first-bytes)) (now (s .args .second-bytes)) (s .pre .0 .0) (s .pre .0 .1)
-          (s .pre .0 .2),
+      fits-at (now (s .args .first-words)) (now (s .args .second-words))
+          (length (now (s .args .roots))) ((s .args .s) .len) (now (s .args .list))
+          ((s .args .s) .place) (s .pre .1 .1) (e-place5 .given .1),
+      roots-few (now (s .args .first-bytes)) (now (s .args .second-bytes)) (s .pre .0 .0)
+          (s .pre .0 .1) (s .pre .0 .2),
+      roots-small (now (s .args .first-bytes)) (now (s .args .second-bytes)) (s .pre .0 .0)
+          (s .pre .0 .1) (s .pre .0 .2),
       s .pre .1 .0 .marks-room,
     )
 
@@ -93,11 +94,11 @@ inside-requires c κs =
     let e-place6 = at-e-place6 .place6 in
     let s = at-e-place6 .before .before .before .before .before .before .before .before .before
     .before .before .before in
-    let f = fits-at (now (s .args .first-words)) (now (s .args .second-words)) (length (now (s .args .roots)))
-    ((s .args .s) .len) (now (s .args .list)) ((s .args .s) .place) (s .pre .1 .1)
-    (e-place6 .given .1) in
-    let r = roots-few (now (s .args .first-bytes)) (now (s .args .second-bytes)) (s .pre .0 .0) (s .pre .0 .1)
-    (s .pre .0 .2) in
+    let f = fits-at (now (s .args .first-words)) (now (s .args .second-words))
+    (length (now (s .args .roots))) ((s .args .s) .len) (now (s .args .list)) ((s .args .s) .place)
+    (s .pre .1 .1) (e-place6 .given .1) in
+    let r = roots-few (now (s .args .first-bytes)) (now (s .args .second-bytes)) (s .pre .0 .0)
+    (s .pre .0 .1) (s .pre .0 .2) in
     let j = f .1 in
     ((s .pre .0 .0 .formed, s .pre .0 .1 .formed, f .0, omega arith), (s .pre .1 .0, f .2))
 
