@@ -9,6 +9,7 @@ use lib.ListN.{length, take, drop, length-append}
 use lib.Seq.{take-at}
 use lib.Dec.{ltb}
 use borrow.Author.Tests.{le-ltb}
+use Rattle.links.specs.Pair.{pairSlots}
 use Rattle.syntax.specs.Bounds.{textBytes}
 use Rattle.syntax.specs.Tree.{Ad}
 use Rattle.syntax.specs.Token.{pick}
@@ -22,7 +23,7 @@ use Rattle.reader.specs.declared.Answer.the-variants as reading
 use Rattle.reader.specs.Content.{answerOf, wordsOf, bytesOf, answer, wordsAfter, bytesAfter, Answered}
 use Rattle.matching.specs.Matching as M
 use Rattle.matching.specs.Matching.{Matched, refused, matches, tableWords}
-use Rattle.admission.specs.Admission.{Well, listWords}
+use Rattle.admission.specs.Admission.{Well}
 use Rattle.admission.specs.Laws.Refusing.{refused-not-admitted}
 use Rattle.matching.specs.declared.Outcome.{Outcome}
 use Rattle.matching.specs.declared.Outcome.the-variants.{Refused}
@@ -72,12 +73,12 @@ accepted-ready s w b w′ b′ d n x = go (smallAd w b) (R.read s) refl (x .answ
         short false h p q = stored s w b w′ b′ tree e p q
 
 -- such memory is never refused by a match that has room for its table and list
-pub ready-matches : {v b w c : List ℕ} {budget : ℕ} {table list table′ list′ : List ℕ} {r : Outcome} → Ready v b → Ready w c → tableWords ≤ length table → listWords ≤ length list →
+pub ready-matches : {v b w c : List ℕ} {budget : ℕ} {table list table′ list′ : List ℕ} {r : Outcome} → Ready v b → Ready w c → tableWords ≤ length table → pairSlots ≤ length list →
     Matched v b w c budget table list table′ list′ r → (k p : ℕ) → r ≡ Refused k p → ⊥
 ready-matches {v} {b} {w} {c} {budget} {table} {list} {r = r} p q h l m k p′ e = go m
   where
     room : M.small v b w c table list ≡ false
-    room = rw (le-ltb (length v) adWords (p .words), le-ltb (length b) adBytesRoom (p .bytes), le-ltb (length w) adWords (q .words), le-ltb (length c) adBytesRoom (q .bytes), le-ltb (length table) tableWords h) (le-ltb (length list) listWords l)
+    room = rw (le-ltb (length v) adWords (p .words), le-ltb (length b) adBytesRoom (p .bytes), le-ltb (length w) adWords (q .words), le-ltb (length c) adBytesRoom (q .bytes), le-ltb (length table) tableWords h) (le-ltb (length list) pairSlots l)
 
     answered : {v b w c table list : List ℕ} → M.Match v b w c budget table list r → ⊥
     answered m = done (decLt budget (length (m .order)))
@@ -97,6 +98,6 @@ ready-matches {v} {b} {w} {c} {budget} {table} {list} {r = r} p q h l m k p′ e
 -- TWO TEXTS s AND t THAT ARE READ ARE NEVER REFUSED BY A MATCH of what reading left, whatever memory they were read into and whatever the
 -- budget, where it has room for its table and list
 pub read-matches : {s t v₀ b₀ w₀ c₀ v b w c : List ℕ} {d n d′ n′ budget : ℕ} {table list table′ list′ : List ℕ} {r : Outcome} →
-    Answered s v₀ b₀ v b (reading.Accepted d n) → Answered t w₀ c₀ w c (reading.Accepted d′ n′) → tableWords ≤ length table → listWords ≤ length list →
+    Answered s v₀ b₀ v b (reading.Accepted d n) → Answered t w₀ c₀ w c (reading.Accepted d′ n′) → tableWords ≤ length table → pairSlots ≤ length list →
     Matched v b w c budget table list table′ list′ r → (k p : ℕ) → r ≡ Refused k p → ⊥
 read-matches x y h l m k p e = ready-matches (accepted-ready _ _ _ _ _ _ _ x) (accepted-ready _ _ _ _ _ _ _ y) h l m k p e

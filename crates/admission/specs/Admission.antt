@@ -5,18 +5,15 @@ use mathlib.Core.Bool.{Bool, true, false, _||_}
 use mathlib.Core.List.{List}
 use lib.ListN.{length, take}
 use lib.Dec.{ltb}
+use Rattle.links.specs.Pair.{pairSlots}
 use Rattle.syntax.specs.Tree.{Ad}
 use Rattle.ad.specs.Layout.{adWords, adBytesRoom}
 use Rattle.well_formed.specs.WellFormed.{Holds}
 
--- 'a list of 2,048 entries'
-abbrev pub listWords : ℕ
-listWords = 2048
-
 -- 'lent room smaller than above': of two ads, of so many numbers besides, of which some are lent, and of a list
 abbrev pub smallPair : (v b w c : List ℕ) (lent room entries : ℕ) → Bool
 smallPair v b w c lent room entries =
-    ltb (length v) adWords || (ltb (length b) adBytesRoom || (ltb (length w) adWords || (ltb (length c) adBytesRoom || (ltb lent room || ltb entries listWords))))
+    ltb (length v) adWords || (ltb (length b) adBytesRoom || (ltb (length w) adWords || (ltb (length c) adBytesRoom || (ltb lent room || ltb entries pairSlots))))
 
 -- the words w and the bytes b hold a well-formed ad, of whose room only the front counts: 'stored numbers are no well-formed tree within
 -- the bounds above' does not hold of them

@@ -19,7 +19,8 @@ use Rattle.ad.specs.Stored.{kindAt, nodeCount, isOwn, isOther, isReference, ope
 abbrev pub numbered : Bool → ℕ → ℕ
 numbered second y = cond second (maxNodes + y) y
 
--- how many slots the nodes of two ads have: 'Every node of each side has its own slot, 1,024 a side.'
+-- how many slots the nodes of two ads have, and so entries the list: 'Every node of each side has its own slot, 1,024 a side.'; '2,048
+-- values and a list of 2,048 entries'
 abbrev pub pairSlots : ℕ
 pairSlots = maxNodes + maxNodes
 

@@ -6,7 +6,7 @@ use mathlib.Core.Bool.{Bool, true, false, _&&_}
 use mathlib.Core.List.{List, [], _∷_, _++_, map}
 use lib.ListN.{length, take, drop, replicate}
 use Rattle.ad.specs.Layout.{adWords, adBytesRoom}
-use Rattle.admission.specs.Admission.{listWords, smallPair, Refuses, Admits}
+use Rattle.admission.specs.Admission.{smallPair, Refuses, Admits}
 use Rattle.values.specs.declared.Value.{Value}
 use Rattle.values.specs.declared.Value.the-variants.{Undefined}
 use Rattle.verdict.specs.Verdict.{isTrue, rankOf}
@@ -14,7 +14,7 @@ use Rattle.slots.specs.declared.Slot.the-variants.{Blank, Held}
 use Rattle.slots.specs.Packed.{slotAt}
 use Rattle.graph.specs.Graph.{Graph, Flags, needs, Entered}
 use Rattle.graph.specs.Transition.{transitions, first, Ended}
-use Rattle.links.specs.Pair.{rootsOf, requirements, rank, pairGraph}
+use Rattle.links.specs.Pair.{rootsOf, requirements, rank, pairGraph, pairSlots}
 use Rattle.valuation.specs.Gives.{Gives}
 use Rattle.valuation.specs.Run.{Ran}
 use Rattle.evaluation.specs.Evaluation.{ruleAt, seen, stepsWords}
@@ -85,4 +85,4 @@ pub data Matched (v b w c : List ℕ) (budget : ℕ) (table list table′ list�
   refused : {k : ℕ} → Refuses v b w c (length table) tableWords (length list) k → r ≡ Refused k 0 → table′ ≡ table → list′ ≡ list → Matched v b w c budget table list table′ list′ r
   matches : Admits v b w c (length table) tableWords (length list) → (values entries : List ℕ) →
       Match (take adWords v) (take adBytesRoom b) (take adWords w) (take adBytesRoom c) budget values entries r →
-      table′ ≡ values ++ drop tableWords table → list′ ≡ entries ++ drop listWords list → Matched v b w c budget table list table′ list′ r
+      table′ ≡ values ++ drop tableWords table → list′ ≡ entries ++ drop pairSlots list → Matched v b w c budget table list table′ list′ r

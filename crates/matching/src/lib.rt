@@ -2,9 +2,9 @@
 use admission::Admission;
 ghost use mathlib.Core.Path.{_≡_};
 ghost use lib.ListN.{length, replicate};
+ghost use Rattle.links.specs.Pair.{pairSlots};
 ghost use Rattle.links.specs.Inner.Asked.{Formed};
 ghost use Rattle.dependency.specs.Inner.Asked.{Ready};
-ghost use Rattle.admission.specs.Admission.{listWords};
 ghost use Rattle.matching.specs.Matching.{tableWords, Match, Matched};
 
 // Two words for each slot.
@@ -31,7 +31,7 @@ fn match_marked(
     budget: u16,
 ) -> Outcome
     requires ready { ⌜ Ready (now «first_words») (now «second_words») (now target) (now flag) (now list) ⌝ }
-    requires room { ⌜ (length (now list) ≡ listWords) × (now table ≡ replicate tableWords 0) ⌝ }
+    requires room { ⌜ (length (now list) ≡ pairSlots) × (now table ≡ replicate tableWords 0) ⌝ }
     ensures { λ r. ⌜ Match (now («first_words» .entry)) (now («first_bytes» .entry)) (now («second_words» .entry)) (now («second_bytes» .entry)) budget (now (table .exit)) (now (list .exit)) r ⌝ }
 {
     let t = dependency::traverse(
@@ -80,7 +80,7 @@ fn match_formed(
     list: &mut [u64],
     budget: u16,
 ) -> Outcome
-    requires { ⌜ Formed (now «first_words») × Formed (now «second_words») × (length (now table) ≡ tableWords) × (length (now list) ≡ listWords) ⌝ }
+    requires { ⌜ Formed (now «first_words») × Formed (now «second_words») × (length (now table) ≡ tableWords) × (length (now list) ≡ pairSlots) ⌝ }
     ensures { λ r. ⌜ Match (now («first_words» .entry)) (now («first_bytes» .entry)) (now («second_words» .entry)) (now («second_bytes» .entry)) budget (now (table .exit)) (now (list .exit)) r ⌝ }
 {
     ad::clear_words(table);

@@ -7,9 +7,9 @@ use lib.ListN.{length, getD, take, drop, replicate}
 use Rattle.ad.specs.Layout.{adWords, adBytesRoom}
 use Rattle.graph.specs.Members.{raised}
 use Rattle.graph.specs.Graph.{Flags, needs, Entered}
-use Rattle.links.specs.Pair.{pairGraph}
+use Rattle.links.specs.Pair.{pairGraph, pairSlots}
 use Rattle.matching.specs.Matching.{Counted}
-use Rattle.admission.specs.Admission.{listWords, Refuses, Admits}
+use Rattle.admission.specs.Admission.{Refuses, Admits}
 use Rattle.ordering.specs.declared.Order.{Order}
 use Rattle.ordering.specs.declared.Order.the-variants.{Refused, Found}
 
@@ -36,7 +36,7 @@ pub record OrdersBy (v b w c flags list : List ℕ) (r : Order) : Type 0 where
 -- THE CONTRACT OF `order_ads`, over any memory, with 2,048 flags and 2,048 entries. It refuses as a match does, with 'all unchanged'; and
 -- 'Memory lent beyond these sizes is never changed.'
 pub data Ordered (v b w c flags list flags′ list′ : List ℕ) (r : Order) : Type 0 where
-  refused : {k : ℕ} → Refuses v b w c (length flags) listWords (length list) k → r ≡ Refused k 0 → flags′ ≡ flags → list′ ≡ list → Ordered v b w c flags list flags′ list′ r
-  orders : Admits v b w c (length flags) listWords (length list) → (marks entries : List ℕ) →
+  refused : {k : ℕ} → Refuses v b w c (length flags) pairSlots (length list) k → r ≡ Refused k 0 → flags′ ≡ flags → list′ ≡ list → Ordered v b w c flags list flags′ list′ r
+  orders : Admits v b w c (length flags) pairSlots (length list) → (marks entries : List ℕ) →
       OrdersBy (take adWords v) (take adBytesRoom b) (take adWords w) (take adBytesRoom c) marks entries r →
-      flags′ ≡ marks ++ drop listWords flags → list′ ≡ entries ++ drop listWords list → Ordered v b w c flags list flags′ list′ r
+      flags′ ≡ marks ++ drop pairSlots flags → list′ ≡ entries ++ drop pairSlots list → Ordered v b w c flags list flags′ list′ r

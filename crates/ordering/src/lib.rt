@@ -2,8 +2,8 @@
 use admission::Admission;
 ghost use mathlib.Core.Path.{_≡_};
 ghost use lib.ListN.{length, replicate};
+ghost use Rattle.links.specs.Pair.{pairSlots};
 ghost use Rattle.links.specs.Inner.Asked.{Formed};
-ghost use Rattle.admission.specs.Admission.{listWords};
 ghost use Rattle.ordering.specs.Ordering.{OrdersBy, Ordered};
 
 // A refusal's number and place; or how many transitions the traversal took, and how long the list is.
@@ -32,7 +32,7 @@ fn order_formed(
     flags: &mut [usize],
     list: &mut [u64],
 ) -> Order
-    requires { ⌜ Formed (now «first_words») × Formed (now «second_words») × (length (now flags) ≡ listWords) × (length (now list) ≡ listWords) ⌝ }
+    requires { ⌜ Formed (now «first_words») × Formed (now «second_words») × (length (now flags) ≡ pairSlots) × (length (now list) ≡ pairSlots) ⌝ }
     ensures { λ r. ⌜ OrdersBy (now («first_words» .entry)) (now («first_bytes» .entry)) (now («second_words» .entry)) (now («second_bytes» .entry)) (now (flags .exit)) (now (list .exit)) r ⌝ }
 {
     clear(flags);

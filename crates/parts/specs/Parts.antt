@@ -5,10 +5,7 @@ use mathlib.Core.List.{List}
 use lib.ListN.{length}
 use denote.Ref.{RefT}
 
--- n bytes behind the place p, which is a block of memory and a number of bytes there
-abbrev pub behind : ℕ × ℕ → ℕ → ℕ × ℕ
-behind p n = (p .0, n + p .1)
-
--- r begins at a byte of the memory m: 'a part of that ad's lent memory'. A place beyond the memory is cut to its end.
+-- r begins at a byte of the memory m, where .ptr is a block of memory and a number of bytes there: 'a part of that ad's lent memory'. A
+-- place beyond the memory is cut to its end.
 abbrev pub PartFrom : RefT (List ℕ) → ℕ → RefT (List ℕ) → Type 0
-PartFrom m offset r = r .ptr ≡ behind (m .ptr) (min offset (length (m .now)))
+PartFrom m offset r = r .ptr ≡ (m .ptr .0, min offset (length (m .now)) + m .ptr .1)

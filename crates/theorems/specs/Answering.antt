@@ -7,6 +7,7 @@ use mathlib.Core.Path.{_≡_, refl, sym, ap, _∙_}
 use mathlib.Core.Bool.{Bool, true, false, _&&_}
 use mathlib.Core.List.{List, _++_}
 use lib.ListN.{length, take, drop}
+use Rattle.links.specs.Pair.{pairSlots}
 use Rattle.syntax.specs.Bounds.{textBytes}
 use Rattle.syntax.specs.Tree.{Ad, nodes}
 use Rattle.syntax.specs.Print.{printedAd}
@@ -22,7 +23,7 @@ use Rattle.printer.specs.declared.Printed.{Printed}
 use Rattle.printer.specs.declared.Printed.the-variants as printed
 use Rattle.matching.specs.Matching as M
 use Rattle.matching.specs.Matching.{Matched, refused, matches, tableWords}
-use Rattle.admission.specs.Admission.{Well, listWords, no-room, first-malformed, second-malformed}
+use Rattle.admission.specs.Admission.{Well, no-room, first-malformed, second-malformed}
 use Rattle.admission.specs.Laws.Wells.{formed-of}
 use Rattle.matching.specs.declared.Outcome.{Outcome}
 use Rattle.matching.specs.declared.Outcome.the-variants.{Refused}
@@ -91,4 +92,4 @@ matched-exists v b w c budget table list = room (M.small v b w c table list) ref
     room false e (yes p) (no n) = (table, list, Refused 10 0, refused (second-malformed e p n) refl refl refl)
     room false e (yes p) (yes q) =
         let m = match-exists (take adWords v) (take adBytesRoom b) (take adWords w) (take adBytesRoom c) (formed-of v b p) (formed-of w c q) budget in
-        (m .table ++ drop tableWords table, m .list ++ drop listWords list, m .answer, matches (record { roomy = e; first-well = p; second-well = q }) (m .table) (m .list) (m .is-match) refl refl)
+        (m .table ++ drop tableWords table, m .list ++ drop pairSlots list, m .answer, matches (record { roomy = e; first-well = p; second-well = q }) (m .table) (m .list) (m .is-match) refl refl)

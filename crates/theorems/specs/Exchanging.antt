@@ -9,6 +9,7 @@ use mathlib.Core.List.{List, []}
 use lib.ListN.{length, take}
 use lib.Dec.{ltb}
 use borrow.Author.Tests.{le-ltb}
+use Rattle.links.specs.Pair.{pairSlots}
 use Rattle.ad.specs.Layout.{adWords, adBytesRoom, storedWords, storedBytes}
 use Rattle.links.specs.Inner.Asked.{Formed}
 use Rattle.reader.specs.declared.Answer.the-variants.{Accepted}
@@ -16,7 +17,7 @@ use Rattle.reader.specs.Content.{Answered}
 use Rattle.matching.specs.Matching as M
 use Rattle.matching.specs.Matching.{Match, Matched, matches, small, tableWords}
 use Rattle.admission.specs.Laws.Refusing.{refused-not-admitted}
-use Rattle.admission.specs.Admission.{listWords, Refuses, no-room, first-malformed, second-malformed, Admits}
+use Rattle.admission.specs.Admission.{Refuses, no-room, first-malformed, second-malformed, Admits}
 use Rattle.admission.specs.Laws.Wells.{formed-of}
 use Rattle.matching.specs.Laws.Exchange.{Exchanged, finished, unfinished, exchange}
 use Rattle.matching.specs.Laws.OneAnswer.{match-one}
@@ -46,7 +47,7 @@ pub record Swapped (verdict verdict′ : Bool) (p q n p′ q′ n′ : ℕ) : Ty
 
 -- the room of a table and a list is 'lent room smaller than above'
 abbrev pub short : (table list : List ℕ) → Bool
-short table list = ltb (length table) tableWords || ltb (length list) listWords
+short table list = ltb (length table) tableWords || ltb (length list) pairSlots
 
 -- ---- one budget or two
 
@@ -178,6 +179,6 @@ texts-answer-exchange x y =
 
 -- OF TWO ACCEPTED TEXTS, read and matched both ways, in any memory with room
 pub accepted-exchange : {s t v₀ b₀ w₀ c₀ v b w c : List ℕ} {d n d′ n′ budget : ℕ} {table list table′ list′ table₂ list₂ table₂′ list₂′ : List ℕ} {r r′ : Outcome} →
-    Answered s v₀ b₀ v b (Accepted d n) → Answered t w₀ c₀ w c (Accepted d′ n′) → tableWords ≤ length table → listWords ≤ length list → tableWords ≤ length table₂ → listWords ≤ length list₂ →
+    Answered s v₀ b₀ v b (Accepted d n) → Answered t w₀ c₀ w c (Accepted d′ n′) → tableWords ≤ length table → pairSlots ≤ length list → tableWords ≤ length table₂ → pairSlots ≤ length list₂ →
     Matched v b w c budget table list table′ list′ r → Matched w c v b budget table₂ list₂ table₂′ list₂′ r′ → Exchanged r r′
 accepted-exchange x y h l h′ l′ m m′ = texts-exchange (texts-match x y h l m) (texts-match y x h′ l′ m′)

@@ -5,6 +5,7 @@ use mathlib.Core.Path.{_≡_, refl, ap, ap₂, _∙_, subst}
 use mathlib.Core.Bool.{Bool}
 use mathlib.Core.List.{List, [], _∷_, _++_, map}
 use lib.ListN.{length, take, drop, replicate}
+use Rattle.links.specs.Pair.{pairSlots}
 use Rattle.syntax.specs.Tree.{Ad, nodes}
 use Rattle.syntax.specs.Reader as R
 use Rattle.ad.specs.Layout.{adWords, storedWords, storedBytes}
@@ -14,7 +15,6 @@ use Rattle.reader.specs.declared.Answer.{Answer}
 use Rattle.reader.specs.declared.Answer.the-variants.{Accepted}
 use Rattle.reader.specs.Content.{Answered}
 use Rattle.matching.specs.Matching.{Match, Matched, refused, matches, tableWords}
-use Rattle.admission.specs.Admission.{listWords}
 use Rattle.matching.specs.declared.Outcome.{Outcome}
 use Rattle.matching.specs.declared.Outcome.the-variants.{Refused}
 use Rattle.acceptance.specs.Acceptance.{read-matches}
@@ -31,7 +31,7 @@ pub record TreesMatch (a e : Ad) (budget : ℕ) (table list table′ list′ : L
   pub entries : List ℕ
   pub is-match : Match (storedWords a) (storedBytes a) (storedWords e) (storedBytes e) budget values entries r
   pub table-is : table′ ≡ values ++ drop tableWords table
-  pub list-is : list′ ≡ entries ++ drop listWords list
+  pub list-is : list′ ≡ entries ++ drop pairSlots list
 
 -- a match of the trees that two texts read as
 pub record TextsMatch (s t : List ℕ) (budget : ℕ) (table list table′ list′ : List ℕ) (r : Outcome) : Type 0 where
@@ -62,7 +62,7 @@ trees-match x y (matches o values entries m t l) u = record {
 
 -- TWO TEXTS THAT ARE ACCEPTED: the match of what reading left is that of the trees that they read as
 pub texts-match : {s t v₀ b₀ w₀ c₀ v b w c : List ℕ} {d n d′ n′ budget : ℕ} {table list table′ list′ : List ℕ} {r : Outcome} →
-    Answered s v₀ b₀ v b (Accepted d n) → Answered t w₀ c₀ w c (Accepted d′ n′) → tableWords ≤ length table → listWords ≤ length list →
+    Answered s v₀ b₀ v b (Accepted d n) → Answered t w₀ c₀ w c (Accepted d′ n′) → tableWords ≤ length table → pairSlots ≤ length list →
     Matched v b w c budget table list table′ list′ r → TextsMatch s t budget table list table′ list′ r
 texts-match x y h l m =
     let p = accepted-tree x in
@@ -79,7 +79,7 @@ of-trees {a = a} {e} {budget} {table} {list} {table′} {list′} {r} p q m =
 
 -- and it takes no more steps than the texts have nodes, so that a budget of as many, or of 2,048, is always enough
 pub texts-list : {s t v₀ b₀ w₀ c₀ v b w c : List ℕ} {d n d′ n′ budget : ℕ} {table list table′ list′ : List ℕ} {r : Outcome} →
-    Answered s v₀ b₀ v b (Accepted d n) → Answered t w₀ c₀ w c (Accepted d′ n′) → tableWords ≤ length table → listWords ≤ length list →
+    Answered s v₀ b₀ v b (Accepted d n) → Answered t w₀ c₀ w c (Accepted d′ n′) → tableWords ≤ length table → pairSlots ≤ length list →
     Matched v b w c budget table list table′ list′ r → Within (n + n′) budget r
 texts-list {v = v} {w = w} {n = n} {n′ = n′} {budget = budget} {r = r} x y h l m =
     let p = accepted-tree x in
@@ -110,9 +110,9 @@ texts-answer {s} {t} {a} {e} p q =
       count = x .count;
       has-match = λ budget table list.
           let y = x .has-match budget in
-          let m : TreesMatch a e budget table list (y .0 ++ drop tableWords table) (y .1 ++ drop listWords list) (answerAt (x .verdict) (x .first-rank) (x .second-rank) (x .steps) (x .count) budget) =
+          let m : TreesMatch a e budget table list (y .0 ++ drop tableWords table) (y .1 ++ drop pairSlots list) (answerAt (x .verdict) (x .first-rank) (x .second-rank) (x .steps) (x .count) budget) =
           record { values = y .0; entries = y .1; is-match = y .2; table-is = refl; list-is = refl } in
-          (y .0 ++ drop tableWords table, y .1 ++ drop listWords list, record { first = a; second = e; first-read = p; second-read = q; trees = m });
+          (y .0 ++ drop tableWords table, y .1 ++ drop pairSlots list, record { first = a; second = e; first-read = p; second-read = q; trees = m });
       only = λ m. x .only (of-trees p q m .is-match);
     }
 
@@ -125,12 +125,12 @@ pub record Shown (row : Row) (budget : ℕ) (table list table′ list′ : List 
   pub trees : TreesMatch first second budget table list table′ list′ r
   pub comes : Comes row (storedWords first) (storedBytes first) (storedWords second) (storedBytes second) (trees .is-match)
   -- 'After a match the list's room holds the whole list, whatever the budget, then zeros'
-  pub listed : list′ ≡ (map suc (row .order) ++ replicate (2048 - length (row .order)) 0) ++ drop listWords list
+  pub listed : list′ ≡ (map suc (row .order) ++ replicate (2048 - length (row .order)) 0) ++ drop pairSlots list
 
 -- the row's texts are read into any memory that is large enough, and what is left is matched, with any budget
 pub record Shows (row : Row) : Type 0 where
   pub shows : {v₀ b₀ w₀ c₀ v b w c : List ℕ} {x y : Answer} {budget : ℕ} {table list table′ list′ : List ℕ} {r : Outcome} → Roomy v₀ b₀ → Roomy w₀ c₀ →
-      Answered (row .first) v₀ b₀ v b x → Answered (row .second) w₀ c₀ w c y → tableWords ≤ length table → listWords ≤ length list →
+      Answered (row .first) v₀ b₀ v b x → Answered (row .second) w₀ c₀ w c y → tableWords ≤ length table → pairSlots ≤ length list →
       Matched v b w c budget table list table′ list′ r → Shown row budget table list table′ list′ r
 
 -- 'W1 to W12 stand as one statement over one table'
@@ -140,7 +140,7 @@ AllShow (r ∷ rs) = Shows r × AllShow rs
 
 module _ (row : Row) (h : Holds row) where
   row-shown : {v₀ b₀ w₀ c₀ v b w c : List ℕ} {x y : Answer} {budget : ℕ} {table list table′ list′ : List ℕ} {r : Outcome} → Roomy v₀ b₀ → Roomy w₀ c₀ →
-      Answered (row .first) v₀ b₀ v b x → Answered (row .second) w₀ c₀ w c y → tableWords ≤ length table → listWords ≤ length list →
+      Answered (row .first) v₀ b₀ v b x → Answered (row .second) w₀ c₀ w c y → tableWords ≤ length table → pairSlots ≤ length list →
       Matched v b w c budget table list table′ list′ r → Shown row budget table list table′ list′ r
   row-shown {v₀} {b₀} {w₀} {c₀} {v} {b} {w} {c} {list = list} p q x y i j m =
       let a = read-answered (h .first-ad) p (h .first-read) x in
@@ -154,7 +154,7 @@ module _ (row : Row) (h : Holds row) where
         second = h .second-ad;
         trees = t;
         comes = k;
-        listed = t .list-is ∙ ap (λ (l : List ℕ). l ++ drop listWords list) (t .is-match .listed ∙ ap (λ (l : List ℕ). map suc l ++ replicate (2048 - length l) 0) (k .lists));
+        listed = t .list-is ∙ ap (λ (l : List ℕ). l ++ drop pairSlots list) (t .is-match .listed ∙ ap (λ (l : List ℕ). map suc l ++ replicate (2048 - length l) 0) (k .lists));
       }
 
   row-shows : Shows row

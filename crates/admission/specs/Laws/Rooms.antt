@@ -7,10 +7,11 @@ use lib.ListN.{length, take}
 use lib.Seq.{length-take-le}
 use lib.Dec.{ltb}
 use borrow.Author.Tests.{ltb-false}
+use Rattle.links.specs.Pair.{pairSlots}
 use Rattle.text.specs.Laws.Booleans.{neither}
 use Rattle.ad.specs.Layout.{adWords, adBytesRoom}
 use Rattle.links.specs.Inner.Asked.{Formed}
-use Rattle.admission.specs.Admission.{listWords, smallPair, Admits}
+use Rattle.admission.specs.Admission.{smallPair, Admits}
 use Rattle.admission.specs.Laws.Wells.{formed-of}
 
 pub record Rooms (v b w c : List ℕ) (lent room entries : ℕ) : Type 0 where
@@ -19,14 +20,14 @@ pub record Rooms (v b w c : List ℕ) (lent room entries : ℕ) : Type 0 where
   pub second-words : adWords ≤ length w
   pub second-bytes : adBytesRoom ≤ length c
   pub values : room ≤ lent
-  pub entries-fit : listWords ≤ entries
+  pub entries-fit : pairSlots ≤ entries
 
 pub rooms : (v b w c : List ℕ) (lent room entries : ℕ) → smallPair v b w c lent room entries ≡ false → Rooms v b w c lent room entries
 rooms v b w c lent room entries e =
-    go (ltb (length v) adWords) refl (ltb (length b) adBytesRoom) refl (ltb (length w) adWords) refl (ltb (length c) adBytesRoom) refl (ltb lent room) refl (ltb entries listWords) refl e
+    go (ltb (length v) adWords) refl (ltb (length b) adBytesRoom) refl (ltb (length w) adWords) refl (ltb (length c) adBytesRoom) refl (ltb lent room) refl (ltb entries pairSlots) refl e
   where
     go : (p : Bool) → ltb (length v) adWords ≡ p → (q : Bool) → ltb (length b) adBytesRoom ≡ q → (r : Bool) → ltb (length w) adWords ≡ r → (s : Bool) → ltb (length c) adBytesRoom ≡ s →
-        (t : Bool) → ltb lent room ≡ t → (u : Bool) → ltb entries listWords ≡ u → (p || (q || (r || (s || (t || u))))) ≡ false → Rooms v b w c lent room entries
+        (t : Bool) → ltb lent room ≡ t → (u : Bool) → ltb entries pairSlots ≡ u → (p || (q || (r || (s || (t || u))))) ≡ false → Rooms v b w c lent room entries
     go p e₁ q e₂ r e₃ s e₄ t e₅ u e₆ h =
         let h₁ = neither p (q || (r || (s || (t || u)))) h .1 in
         let h₂ = neither q (r || (s || (t || u))) h₁ .1 in
@@ -38,7 +39,7 @@ rooms v b w c lent room entries e =
           second-words = ltb-false (length w) adWords (e₃ ∙ neither r (s || (t || u)) h₂ .0);
           second-bytes = ltb-false (length c) adBytesRoom (e₄ ∙ neither s (t || u) h₃ .0);
           values = ltb-false lent room (e₅ ∙ neither t u h₄ .0);
-          entries-fit = ltb-false entries listWords (e₆ ∙ neither t u h₄ .1);
+          entries-fit = ltb-false entries pairSlots (e₆ ∙ neither t u h₄ .1);
         }
 
 -- of two ads that are admitted

@@ -9,10 +9,9 @@ use mathlib.Core.List.{List, [], _++_, map}
 use lib.ListN.{length, take, drop, replicate}
 use Rattle.graph.specs.Graph.{Graph, needs, Entered}
 use Rattle.graph.specs.Laws.Order.{entered-unique}
-use Rattle.links.specs.Pair.{pairGraph}
+use Rattle.links.specs.Pair.{pairGraph, pairSlots}
 use Rattle.evaluation.specs.Evaluation.{ruleAt, stepsWords}
 use Rattle.matching.specs.Matching.{Concluded, Counted, Match, tableWords, Matched, refused, matches}
-use Rattle.admission.specs.Admission.{listWords}
 use Rattle.admission.specs.Laws.Refusing.{refuses-one, refused-not-admitted}
 use Rattle.matching.specs.Laws.Concluding.{flags-same, worth-unique}
 use Rattle.matching.specs.declared.Outcome.{Outcome}
@@ -86,6 +85,6 @@ matched-one {table = table} {list} (matches a values entries m t l) (matches a�
     let x = match-one _ _ _ _ _ m m′ in
     record {
       tables = t ∙ ap (λ (y : List ℕ). y ++ drop tableWords table) (x .tables) ∙ sym t′;
-      lists = l ∙ ap (λ (y : List ℕ). y ++ drop listWords list) (x .lists) ∙ sym l′;
+      lists = l ∙ ap (λ (y : List ℕ). y ++ drop pairSlots list) (x .lists) ∙ sym l′;
       answers = x .answers;
     }

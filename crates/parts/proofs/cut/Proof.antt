@@ -6,8 +6,7 @@ use native.Mathlib.Omega.{arith}
 use denote.Ref.{now}
 use lib.ListN.{length, drop, drop-of-length-le, length-drop}
 use lib.Seq.{drop-length}
-use Rattle.parts.specs.Parts.{behind}
-use Rattle.parts.proofs.Parts.{cut-none, cut-all}
+use Rattle.parts.proofs.Parts.{cut-none, cut-all, behind}
 use borrow.Author.Needs.{needs}
 use Rattle.parts.proofs.cut.Statement.{statement}
 use Rattle.parts.proofs.cut.Tie as tie

@@ -30,7 +30,7 @@ use Rattle.reader.specs.Content.{answerOf, answer, wordsAfter, bytesAfter, Answ
 use Rattle.graph.specs.Members.{_∈_, Distinct}
 use Rattle.graph.specs.Graph.{Graph, IsList}
 use Rattle.graph.specs.Laws.Members.{put-same, put-other}
-use Rattle.links.specs.Pair.{numbered, requirements, rank, pairGraph}
+use Rattle.links.specs.Pair.{numbered, requirements, rank, pairGraph, pairSlots}
 use Rattle.values.specs.declared.Value.{Value}
 use Rattle.slots.specs.declared.Slot.{Slot}
 use Rattle.slots.specs.declared.Slot.the-variants.{Blank, Held}
@@ -40,7 +40,7 @@ use Rattle.evaluation.specs.Evaluation.{seen, Stepped}
 use Rattle.matching.specs.Matching as M
 use Rattle.verdict.specs.Verdict.{isTrue, rankOf}
 use Rattle.matching.specs.Matching.{Counted, Match, Matched, refused, matches, tableWords}
-use Rattle.admission.specs.Admission.{Well, listWords, no-room, first-malformed, second-malformed}
+use Rattle.admission.specs.Admission.{Well, no-room, first-malformed, second-malformed}
 use Rattle.matching.specs.declared.Outcome.{Outcome}
 use Rattle.matching.specs.declared.Outcome.the-variants as outcome
 use Rattle.ordering.specs.Ordering as O
@@ -137,7 +137,7 @@ found-orders {v} {b} {w} {c} {flags} {list} {count} {len} x =
 
 -- what `order_ads` shows of two ads that it does not refuse
 pub ordered-found : {v b w c flags list flags′ list′ : List ℕ} {count len : ℕ} → Ordered v b w c flags list flags′ list′ (Found count len) →
-    (marks entries : List ℕ) × (flags′ ≡ marks ++ drop listWords flags) × (list′ ≡ entries ++ drop listWords list) ×
+    (marks entries : List ℕ) × (flags′ ≡ marks ++ drop pairSlots flags) × (list′ ≡ entries ++ drop pairSlots list) ×
     Orders (take adWords v) (take adBytesRoom b) (take adWords w) (take adBytesRoom c) marks entries count len
 ordered-found (O.refused e a f l) = let z : _≡_ {A = ℕ} 0 1 = cc in absurd (omega arith)
 ordered-found (O.orders e marks entries o f l) = (marks, entries, f, l, found-orders o)
@@ -182,7 +182,7 @@ count-of {budget = budget} {r = r} m = go (decLt budget (length (m .order)))
 
 -- two texts that are accepted, and the match of what reading left
 module _ {s t v₀ b₀ w₀ c₀ v b w c : List ℕ} {d n d′ n′ budget : ℕ} {table list table′ list′ : List ℕ} {r : Outcome}
-    (x : Answered s v₀ b₀ v b (Accepted d n)) (y : Answered t w₀ c₀ w c (Accepted d′ n′)) (h : tableWords ≤ length table) (l : listWords ≤ length list)
+    (x : Answered s v₀ b₀ v b (Accepted d n)) (y : Answered t w₀ c₀ w c (Accepted d′ n′)) (h : tableWords ≤ length table) (l : pairSlots ≤ length list)
     (m : Matched v b w c budget table list table′ list′ r) where
   abbrev one : Ad
   one = accepted-tree x .0
@@ -207,7 +207,7 @@ module _ {s t v₀ b₀ w₀ c₀ v b w c : List ℕ} {d n d′ n′ budget : �
 
   -- THE LIST OF TWO TEXTS is that of their trees, stands whole in its room, and its first entries are worked out, as many as the steps
   pub texts-listed : (first second : Ad) × (R.read s ≡ R.accepted first) × (R.read t ≡ R.accepted second) × (order : List ℕ) × IsList (treeGraph first second) order ×
-      (list′ ≡ (map suc order ++ replicate (2048 - length order) 0) ++ drop listWords list) × Distinct order × (length order ≤ n + n′) × (stepsOf r ≡ min budget (length order))
+      (list′ ≡ (map suc order ++ replicate (2048 - length order) 0) ++ drop pairSlots list) × Distinct order × (length order ≤ n + n′) × (stepsOf r ≡ min budget (length order))
   texts-listed =
       let k = match-of .is-match in
       let f = match-list (read-formed s one (one-read .reads)) (read-formed t two (two-read .reads)) k in
@@ -218,7 +218,7 @@ module _ {s t v₀ b₀ w₀ c₀ v b w c : List ℕ} {d n d′ n′ budget : �
         two-read .reads,
         k .order,
         list-is (tree-holds one-read) (tree-holds two-read) (k .order) .0 (k .circular, k .flagged, k .entered),
-        match-of .list-is ∙ ap (λ (z : List ℕ). z ++ drop listWords list) (k .listed),
+        match-of .list-is ∙ ap (λ (z : List ℕ). z ++ drop pairSlots list) (k .listed),
         f .once,
         few,
         f .steps,
