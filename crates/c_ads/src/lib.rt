@@ -7,9 +7,9 @@ ghost use Rattle.c_ads.specs.Printing.{printNumbers, PrintReported};
 ghost use Rattle.c_ads.specs.Inspecting.{positionNumbers, holderNumbers};
 ghost use Rattle.inspection.specs.Inspection.{nodeText, holder};
 ghost use Rattle.syntax.specs.Print.{printedAd};
+use ad_reader::Answer;
 use inspection::Holder;
 use printer::Printed;
-use reader::Answer;
 use well_formed::Checked;
 
 // An answer as three numbers: 0, the definitions and the nodes; or the refusal's number, the byte's place and 0.

@@ -7,11 +7,11 @@ mod shown;
 mod stored;
 mod verdict;
 
+use ad_reader::Answer;
 use input::Budget;
 use input::Input;
 use ordering::Order;
 use printer::Printed;
-use reader::Answer;
 
 enum Command {
     Check,

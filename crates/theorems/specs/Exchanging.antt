@@ -11,7 +11,7 @@ use lib.Dec.{ltb}
 use borrow.Author.Tests.{le-ltb}
 use Rattle.ad.specs.Layout.{adWords, adBytesRoom, storedWords, storedBytes}
 use Rattle.links.specs.Inner.Asked.{Formed}
-use Rattle.reader.specs.declared.Answer.the-variants.{Accepted}
+use Rattle.ad_reader.specs.declared.Answer.the-variants.{Accepted}
 use Rattle.reader.specs.Content.{Answered}
 use Rattle.matching.specs.Matching.{Match, Matched, no-room, first-malformed, second-malformed, matches, small, tableWords}
 use Rattle.admission.specs.Admission.{listWords}
