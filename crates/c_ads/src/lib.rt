@@ -5,10 +5,11 @@ ghost use Rattle.c_ads.specs.Checking.{CheckReported};
 ghost use Rattle.c_ads.specs.Inner.Numbers.{checkNumbers};
 ghost use Rattle.c_ads.specs.Printing.{printNumbers, PrintReported};
 ghost use Rattle.c_ads.specs.Inspecting.{positionNumbers, holderNumbers};
-ghost use Rattle.inspection.specs.Inspection.{nodeText, holder};
+ghost use Rattle.inspection.specs.Inspection.{nodeText};
+ghost use Rattle.holders.specs.Holders.{holder};
 ghost use Rattle.syntax.specs.Print.{printedAd};
 use ad_reader::Answer;
-use inspection::Holder;
+use holders::Holder;
 use printer::Printed;
 use well_formed::Checked;
 
@@ -88,7 +89,7 @@ pub fn expression(
 pub fn definition(words: &[u64], node: usize, answer: &mut [u64; 4])
     ensures { λ _. ⌜ now (answer .exit) ≡ holderNumbers (now (words .entry)) (holder (now (words .entry)) node) ⌝ }
 {
-    *answer = match inspection::definition_of(words, node) {
+    *answer = match holders::definition_of(words, node) {
         Holder::Nothing => [0, 0, 0, 0],
         Holder::Definition(j) => {
             [
