@@ -18,8 +18,8 @@ use Rattle.ad.specs.Layout.{smallAd, adWords, adBytesRoom, storedWords, storedB
 use Rattle.well_formed.specs.WellFormed.{Holds}
 use Rattle.well_formed.specs.Laws.Bounds.{read-holds}
 use Rattle.well_formed.specs.Laws.Whole.{holds-long}
-use Rattle.reader.specs.declared.Answer.{Answer}
-use Rattle.reader.specs.declared.Answer.the-variants as reading
+use Rattle.ad_reader.specs.declared.Answer.{Answer}
+use Rattle.ad_reader.specs.declared.Answer.the-variants as reading
 use Rattle.reader.specs.Content.{answerOf, wordsOf, bytesOf, answer, wordsAfter, bytesAfter, Answered}
 use Rattle.matching.specs.Matching as M
 use Rattle.matching.specs.Matching.{Matched, refused, matches, tableWords}

@@ -3,8 +3,8 @@ use Prim.Native.Nat.{ℕ}
 use mathlib.Core.List.{List, [], _∷_}
 use Rattle.ad.specs.Stored.{offsetAt, lengthAt}
 use Rattle.positions.specs.Positions.{lineOf, columnOf}
-use Rattle.inspection.specs.declared.Holder.{Holder}
-use Rattle.inspection.specs.declared.Holder.the-variants.{Definition, Nothing}
+use Rattle.holders.specs.declared.Holder.{Holder}
+use Rattle.holders.specs.declared.Holder.the-variants.{Definition, Nothing}
 
 -- the definition that a node belongs to: 1, its number, and its name's offset and length; zeros where there is none: 'definitions `name =
 -- expression`'

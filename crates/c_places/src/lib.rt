@@ -2,14 +2,14 @@
 // numbers (docs/LAYOUT.md).
 ghost use mathlib.Core.Path.{_≡_};
 ghost use Rattle.c_places.specs.Inspecting.{positionNumbers, holderNumbers};
-ghost use Rattle.inspection.specs.Inspection.{holder};
-use inspection::Holder;
+ghost use Rattle.holders.specs.Holders.{holder};
+use holders::Holder;
 
 // The definition that a node belongs to, as four numbers: 1, its number, and its name's offset and length; zeros where there is none.
 pub fn definition(words: &[u64], node: usize, answer: &mut [u64; 4])
     ensures { λ _. ⌜ now (answer .exit) ≡ holderNumbers (now (words .entry)) (holder (now (words .entry)) node) ⌝ }
 {
-    *answer = match inspection::definition_of(words, node) {
+    *answer = match holders::definition_of(words, node) {
         Holder::Nothing => [0, 0, 0, 0],
         Holder::Definition(j) => {
             [

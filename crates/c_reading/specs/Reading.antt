@@ -3,8 +3,8 @@
 use Prim.Native.Nat.{ℕ}
 use mathlib.Core.Path.{_≡_}
 use mathlib.Core.List.{List, [], _∷_}
-use Rattle.reader.specs.declared.Answer.{Answer}
-use Rattle.reader.specs.declared.Answer.the-variants.{Accepted, Refused}
+use Rattle.ad_reader.specs.declared.Answer.{Answer}
+use Rattle.ad_reader.specs.declared.Answer.the-variants.{Accepted, Refused}
 use Rattle.reader.specs.Content.{Answered, answer}
 
 -- 0, the definitions and the nodes; or the refusal's number, the byte's place and 0 (docs/LAYOUT.md): 'accepted with its counts, or

@@ -1,7 +1,7 @@
 // What the C function that reads does: it calls the function of its name and leaves its answer in numbers (docs/LAYOUT.md).
 ghost use mathlib.Core.Path.{_≡_};
 ghost use Rattle.c_reading.specs.Reading.{numbersOf, Reported};
-use reader::Answer;
+use ad_reader::Answer;
 
 // An answer as three numbers: 0, the definitions and the nodes; or the refusal's number, the byte's place and 0.
 fn numbers(answer: Answer) -> [u64; 3]

@@ -1,9 +1,9 @@
 // The command classad over the proved library. docs/COMMANDS.md says what it writes.
+use ad_reader::Answer;
 use cli_arguments::Request;
 use cli_input::Input;
 use ordering::Order;
 use printer::Printed;
-use reader::Answer;
 
 // What is done with two ads; the number is a budget.
 enum Task {

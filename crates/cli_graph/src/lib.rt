@@ -109,7 +109,7 @@ fn node(
     node: usize,
     circular: bool,
 ) {
-    let from = inspection::definition_name(words, bytes, node);
+    let from = holders::definition_name(words, bytes, node);
     let to = cli_stored::reference(words, bytes, node);
     let kind = cli_stored::kind(words, node);
     if kind == 7 {

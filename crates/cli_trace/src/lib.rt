@@ -17,7 +17,7 @@ pub fn entry_count(list: &[u64]) -> usize {
 
 // The definition that a node belongs to, and its expression.
 fn node_line(out: &mut bool, words: &[u64], bytes: &[u8], node: usize) {
-    say(out, inspection::definition_name(words, bytes, node));
+    say(out, holders::definition_name(words, bytes, node));
     say(out, b": ");
     let mut text = [0u8; 16384];
     match inspection::expression(words, bytes, node, &mut text) {

@@ -1,3 +1,2 @@
-pub mod Holders
 pub mod Reached
 pub mod Ways

@@ -1,19 +1,8 @@
--- The nodes of an ad one by one: which definition each belongs to, and its expression's text. w are the words of a stored ad. Assumes
--- nothing.
-use Prim.Native.Nat.{ℕ, zero, suc, _-_}
-use mathlib.Core.Bool.{cond}
+-- The nodes of an ad one by one: the text of each node's expression. Assumes nothing.
+use Prim.Native.Nat.{ℕ, zero, suc}
 use mathlib.Core.List.{List, [], _∷_, _++_}
-use lib.ListN.{length}
-use lib.Dec.{eqb, ltb, leb}
-use Rattle.syntax.specs.Bounds.{maxDefinitions}
-use Rattle.syntax.specs.Tree.{Expr, literal, reference, unary, binary, conditional, Ad, size}
+use Rattle.syntax.specs.Tree.{Expr, literal, reference, unary, binary, conditional, Ad}
 use Rattle.syntax.specs.Print.{printed}
-use Rattle.ad.specs.Layout.{adWords}
-use Rattle.ad.specs.Stored.{offsetAt, lengthAt, rootAt, bytesAt}
-use Rattle.inspection.specs.declared.Holder.{Holder}
-use Rattle.inspection.specs.declared.Holder.the-variants.{Definition, Nothing}
-
--- ---- expressions
 
 -- the expressions of an expression's nodes by their numbers, operands first and itself last (docs/LAYOUT.md): 'A node is a literal, a
 -- reference or an operator.'
@@ -40,32 +29,3 @@ textAt (e ∷ es) (suc i) = textAt es i
 -- differently'
 abbrev pub nodeText : Ad → ℕ → List ℕ
 nodeText a i = textAt (expressions a) i
-
--- ---- definitions
-
--- the number of the definition, counted from j on, that node i belongs to, where i counts from the first of their nodes:
--- 'definitions `name = expression`'
-unfoldable pub ownerFrom : ℕ → Ad → ℕ → Holder
-ownerFrom j [] i = Nothing
-ownerFrom j (d ∷ ds) i = cond (ltb i (size (d .expression))) (Definition j) (ownerFrom (suc j) ds (i - size (d .expression)))
-
--- the definition that node i of an ad belongs to: 'definitions `name = expression`'
-abbrev pub owner : Ad → ℕ → Holder
-owner a i = ownerFrom 0 a i
-
--- the first of k stored definitions, from definition j on, whose root is not below node i; none behind the last, whose name has no
--- bytes (docs/LAYOUT.md)
-unfoldable pub holderFrom : List ℕ → ℕ → ℕ → ℕ → Holder
-holderFrom w i j zero = Nothing
-holderFrom w i j (suc k) = cond (eqb (lengthAt w j) 0) Nothing (cond (leb i (rootAt w j)) (Definition j) (holderFrom w i (suc j) k))
-
--- THE CONTRACT OF `definition_of`, over any words: the first definition whose root is not below the node; none where the words are
--- fewer than an ad's, 'room for 1,024 nodes, 256 definitions'. Of a stored ad it is the node's `owner` (Laws/Owners.antt)
-abbrev pub holder : List ℕ → ℕ → Holder
-holder w i = cond (ltb (length w) adWords) Nothing (holderFrom w i 0 maxDefinitions)
-
--- THE CONTRACT OF `definition_name`, over any words and bytes: the name of the definition that is found, empty where there is none: 'names
--- as written'
-abbrev pub holderName : List ℕ → List ℕ → Holder → List ℕ
-holderName w b (Definition j) = bytesAt b (offsetAt w j) (lengthAt w j)
-holderName w b Nothing = []

@@ -1,2 +1,1 @@
 pub mod Inspection
-pub mod Laws

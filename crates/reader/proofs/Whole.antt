@@ -15,9 +15,9 @@ use Rattle.ad.specs.Layout.{padded, adNodes, adDefinitions, adBytes, storedWord
 use Rattle.leaves.specs.Inner.Marks.{Memory, memory}
 use Rattle.reader.specs.Content.{answer, wordsAfter, bytesAfter, Answered}
 use Rattle.reader.specs.Inner.Leaving.{Left, Cleared}
-use Rattle.reader.specs.Inner.Post.{AgreesAd}
-use Rattle.reader.specs.declared.Answer.{Answer}
-use Rattle.reader.specs.declared.Answer.the-variants.{Accepted, Refused}
+use Rattle.ad_reader.specs.Inner.Post.{AgreesAd}
+use Rattle.ad_reader.specs.declared.Answer.{Answer}
+use Rattle.ad_reader.specs.declared.Answer.the-variants.{Accepted, Refused}
 
 zeros : {i j : ℕ} → i ≡ j → replicate {A = ℕ} i 0 ≡ replicate j 0
 zeros e = ap (λ (k : ℕ). replicate {A = ℕ} k 0) e

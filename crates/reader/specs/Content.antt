@@ -11,8 +11,8 @@ use Rattle.syntax.specs.Tree.{nodes}
 use Rattle.syntax.specs.Token.{pick}
 use Rattle.syntax.specs.Reader as R
 use Rattle.ad.specs.Layout.{adWords, adBytesRoom, storedWords, storedBytes, smallAd}
-use Rattle.reader.specs.declared.Answer.{Answer}
-use Rattle.reader.specs.declared.Answer.the-variants.{Accepted, Refused}
+use Rattle.ad_reader.specs.declared.Answer.{Answer}
+use Rattle.ad_reader.specs.declared.Answer.the-variants.{Accepted, Refused}
 
 -- 'the reader answers an enum: accepted with its counts, or refused with number and byte place'
 abbrev pub answerOf : R.Answer → Answer

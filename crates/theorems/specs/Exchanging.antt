@@ -12,7 +12,7 @@ use borrow.Author.Tests.{le-ltb}
 use Rattle.links.specs.Pair.{pairSlots}
 use Rattle.ad.specs.Layout.{adWords, adBytesRoom, storedWords, storedBytes}
 use Rattle.links.specs.Inner.Asked.{Formed}
-use Rattle.reader.specs.declared.Answer.the-variants.{Accepted}
+use Rattle.ad_reader.specs.declared.Answer.the-variants.{Accepted}
 use Rattle.reader.specs.Content.{Answered}
 use Rattle.matching.specs.Matching as M
 use Rattle.matching.specs.Matching.{Match, Matched, matches, small, tableWords}

@@ -15,7 +15,7 @@ use Rattle.well_formed.specs.WellFormed.{Holds}
 use Rattle.well_formed.specs.Laws.Whole.{holds-long}
 use Rattle.printer.specs.Prints.{Roomy, Prints}
 use Rattle.printer.specs.declared.Printed.the-variants.{Text}
-use Rattle.reader.specs.declared.Answer.{Answer}
+use Rattle.ad_reader.specs.declared.Answer.{Answer}
 use Rattle.reader.specs.Content.{Answered}
 use Rattle.matching.specs.Matching.{Matched, refused, matches, small, tableWords}
 use Rattle.admission.specs.Admission.{Well, Refuses, no-room, first-malformed, second-malformed, Admits}

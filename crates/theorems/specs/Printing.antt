@@ -20,8 +20,8 @@ use Rattle.round_trip.specs.Laws.RoundTrip.{read-back}
 use Rattle.printer.specs.Prints.{Roomy, Stored, Fitting, Refuses, small, malformed, long, PrintsText, Prints, HandsBack}
 use Rattle.printer.specs.declared.Printed.{Printed}
 use Rattle.printer.specs.declared.Printed.the-variants.{Text, Refused}
-use Rattle.reader.specs.declared.Answer.{Answer}
-use Rattle.reader.specs.declared.Answer.the-variants.{Accepted}
+use Rattle.ad_reader.specs.declared.Answer.{Answer}
+use Rattle.ad_reader.specs.declared.Answer.the-variants.{Accepted}
 use Rattle.reader.specs.Content.{Answered}
 use Rattle.theorems.specs.Reading.{read-answered}
 

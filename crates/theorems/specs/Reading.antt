@@ -22,8 +22,8 @@ use Rattle.ad.specs.Stored.{nodeCount}
 use Rattle.links.specs.Inner.Asked.{Formed}
 use Rattle.links.specs.Laws.Layout.{stored-nodes, stored-formed}
 use Rattle.printer.specs.Prints.{Roomy}
-use Rattle.reader.specs.declared.Answer.{Answer}
-use Rattle.reader.specs.declared.Answer.the-variants.{Accepted, Refused}
+use Rattle.ad_reader.specs.declared.Answer.{Answer}
+use Rattle.ad_reader.specs.declared.Answer.the-variants.{Accepted, Refused}
 use Rattle.reader.specs.Content.{answerOf, answer, wordsAfter, bytesAfter, Answered}
 
 -- the text s was read as the tree a: 'accepted with its counts', and 'equal trees have equal content'

@@ -11,8 +11,8 @@ use Rattle.syntax.specs.Reader as R
 use Rattle.ad.specs.Layout.{adWords, storedWords, storedBytes}
 use Rattle.ad.specs.Stored.{nodeCount}
 use Rattle.printer.specs.Prints.{Roomy}
-use Rattle.reader.specs.declared.Answer.{Answer}
-use Rattle.reader.specs.declared.Answer.the-variants.{Accepted}
+use Rattle.ad_reader.specs.declared.Answer.{Answer}
+use Rattle.ad_reader.specs.declared.Answer.the-variants.{Accepted}
 use Rattle.reader.specs.Content.{Answered}
 use Rattle.matching.specs.Matching.{Match, Matched, refused, matches, tableWords}
 use Rattle.matching.specs.declared.Outcome.{Outcome}

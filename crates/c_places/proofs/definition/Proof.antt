@@ -1,6 +1,6 @@
 -- `c_places::definition` meets its contract. Assumes nothing.
 use mathlib.Core.Path.{_∙_, sym, ap}
-use Rattle.inspection.proofs.Holders.{holder-inside}
+use Rattle.holders.proofs.Holders.{holder-inside}
 use Rattle.c_places.specs.Inspecting.{holderNumbers}
 use borrow.Author.Needs.{needs}
 use Rattle.c_places.proofs.definition.Statement.{statement}

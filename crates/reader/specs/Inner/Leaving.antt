@@ -4,8 +4,8 @@ use mathlib.Core.Path.{_≡_}
 use mathlib.Core.List.{List}
 use lib.ListN.{length, replicate}
 use Rattle.syntax.specs.Reader as R
-use Rattle.reader.specs.declared.Answer.{Answer}
-use Rattle.reader.specs.declared.Answer.the-variants.{Refused}
+use Rattle.ad_reader.specs.declared.Answer.{Answer}
+use Rattle.ad_reader.specs.declared.Answer.the-variants.{Refused}
 use Rattle.reader.specs.Content.{answerOf, wordsOf, bytesOf}
 
 -- exactly the room of an ad, and a text within its bound: 'room for 1,024 nodes, 256 definitions and 16,384 bytes of names and

@@ -24,8 +24,8 @@ use Rattle.grammar.specs.Laws.Refusals.{read-refusal}
 use Rattle.well_formed.specs.WellFormed.{Holds, Answers}
 use Rattle.well_formed.specs.declared.Checked.the-variants.{WellFormed}
 use Rattle.printer.specs.Prints.{Roomy}
-use Rattle.reader.specs.declared.Answer.{Answer}
-use Rattle.reader.specs.declared.Answer.the-variants.{Accepted, Refused}
+use Rattle.ad_reader.specs.declared.Answer.{Answer}
+use Rattle.ad_reader.specs.declared.Answer.the-variants.{Accepted, Refused}
 use Rattle.reader.specs.Content.{answerOf, answer, wordsAfter, bytesAfter, Answered}
 use Rattle.graph.specs.Members.{_∈_, Distinct}
 use Rattle.graph.specs.Graph.{Graph, IsList}

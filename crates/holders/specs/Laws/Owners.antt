@@ -16,8 +16,8 @@ use Rattle.well_formed.specs.WellFormed.{Holds}
 use Rattle.well_formed.specs.Laws.Bounds.{bounded}
 use Rattle.well_formed.specs.Laws.Definitions.{name-some, Table, table-row}
 use Rattle.well_formed.specs.Laws.Whole.{holds-table, stop-zero, holds-long}
-use Rattle.inspection.specs.Inspection.{ownerFrom, owner, holderFrom, holder}
-use Rattle.inspection.specs.declared.Holder.the-variants as found
+use Rattle.holders.specs.Holders.{ownerFrom, owner, holderFrom, holder}
+use Rattle.holders.specs.declared.Holder.the-variants as found
 
 -- definitions whose nodes begin at n, among k that may be there, behind which none is named
 from : (a : Ad) (k : ℕ) (w b : List ℕ) (j n o i : ℕ) → Table w b j n o a → length a ≤ k → (length a < k → lengthAt w (j + length a) ≡ 0) → n ≤ i → holderFrom w i j k ≡ ownerFrom j a (i - n)

@@ -1,10 +1,10 @@
--- `inspection::definition_name` meets its contract. Assumes nothing.
+-- `holders::definition_name` meets its contract. Assumes nothing.
 use mathlib.Core.Path.{_∙_, sym, ap}
-use Rattle.inspection.specs.Inspection.{holderName}
-use Rattle.inspection.proofs.Holders.{holder-inside}
+use Rattle.holders.specs.Holders.{holderName}
+use Rattle.holders.proofs.Holders.{holder-inside}
 use borrow.Author.Needs.{needs}
-use Rattle.inspection.proofs.definition_name.Statement.{statement}
-use Rattle.inspection.proofs.definition_name.Tie as tie
+use Rattle.holders.proofs.definition_name.Statement.{statement}
+use Rattle.holders.proofs.definition_name.Tie as tie
 
 -- src/lib.rt:39:11
 definition-of-requires : tie.Need-definition-of-requires

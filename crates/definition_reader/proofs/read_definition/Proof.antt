@@ -5,10 +5,10 @@ use Rattle.leaves.specs.Inner.Marks.{mark, memory}
 use Rattle.leaves.proofs.Laws.{fewer-left}
 use Rattle.syntax.specs.Token.{symbol}
 use Rattle.syntax.specs.declared.Symbol.the-variants.{Assign}
-use Rattle.reader.proofs.Laws.{definition-twice, definition-many, definition-assign, definition-refused, definition-done}
+use Rattle.definition_reader.proofs.Laws.{definition-twice, definition-many, definition-assign, definition-refused, definition-done}
 use borrow.Author.Needs.{needs}
-use Rattle.reader.proofs.read_definition.Statement.{statement}
-use Rattle.reader.proofs.read_definition.Tie as tie
+use Rattle.definition_reader.proofs.read_definition.Statement.{statement}
+use Rattle.definition_reader.proofs.read_definition.Tie as tie
 
 returns : tie.Need-returns
 returns c =

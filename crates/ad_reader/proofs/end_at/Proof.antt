@@ -1,7 +1,7 @@
-use Rattle.reader.proofs.Laws.{end-here, end-bad, end-more}
+use Rattle.ad_reader.proofs.Laws.{end-here, end-bad, end-more}
 use borrow.Author.Needs.{needs}
-use Rattle.reader.proofs.end_at.Statement.{statement}
-use Rattle.reader.proofs.end_at.Tie as tie
+use Rattle.ad_reader.proofs.end_at.Statement.{statement}
+use Rattle.ad_reader.proofs.end_at.Tie as tie
 
 returns : tie.Need-returns
 returns c =

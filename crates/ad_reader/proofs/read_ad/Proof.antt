@@ -1,9 +1,9 @@
 use native.Mathlib.Omega.{arith}
 use Rattle.leaves.specs.Inner.Marks.{memory}
-use Rattle.reader.proofs.Laws.{ad-none, ad-read}
+use Rattle.ad_reader.proofs.Laws.{ad-none, ad-read}
 use borrow.Author.Needs.{needs}
-use Rattle.reader.proofs.read_ad.Statement.{statement}
-use Rattle.reader.proofs.read_ad.Tie as tie
+use Rattle.ad_reader.proofs.read_ad.Statement.{statement}
+use Rattle.ad_reader.proofs.read_ad.Tie as tie
 
 read-definitions-requires : tie.Need-read-definitions-requires
 read-definitions-requires c κs =

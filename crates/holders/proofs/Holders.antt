@@ -9,8 +9,8 @@ use lib.ListN.{length}
 use lib.Dec.{eqb, ltb, leb}
 use borrow.Author.Tests.{ltb-false, lt-ltb, le-ltb, le-leb, lt-leb, eq-eqb, ne-eqb}
 use Rattle.ad.specs.Stored.{lengthAt, rootAt}
-use Rattle.inspection.specs.Inspection.{holderFrom, holder}
-use Rattle.inspection.specs.declared.Holder.the-variants.{Definition, Nothing}
+use Rattle.holders.specs.Holders.{holderFrom, holder}
+use Rattle.holders.specs.declared.Holder.the-variants.{Definition, Nothing}
 
 pub too-short : (w : List ℕ) (i : ℕ) → length w < 4864 → Nothing ≡ holder w i
 too-short w i h = rw (lt-ltb (length w) 4864 h) refl

@@ -1,21 +1,19 @@
--- What the readers of definitions ensure. s is the text. Assumes nothing.
+-- What the reader of a definition is given and ensures. s is the text. Assumes nothing.
 use Prim.Native.Nat.{ℕ, _+_, _≤_, _<_}
 use mathlib.Core.Path.{_≡_}
 use mathlib.Core.List.{List, [], _∷_, _++_}
 use lib.ListN.{length}
 use lib.Seq.{sets, slice}
 use Rattle.syntax.specs.Tree.{Expr, Ad, size, nodes}
-use Rattle.syntax.specs.Token.{Tokens, symbol, end}
+use Rattle.syntax.specs.Token.{Tokens, symbol}
 use Rattle.syntax.specs.Reader as R
-use Rattle.syntax.specs.Reader.{limits, conditionalAt, afterA, wantA, endA, admit, enough, definitionsAt, behindAt}
+use Rattle.syntax.specs.Reader.{limits, conditionalAt, afterA, wantA, admit, enough}
 use Rattle.syntax.specs.declared.Symbol.the-variants.{Assign}
 use Rattle.lexer.specs.Inner.Meaning.{tokensAt}
 use Rattle.ad.specs.Layout.{adNodes, adDefinitions, adBytes}
 use Rattle.leaves.specs.Inner.Marks.{Mark, mark, Memory, memory, left}
 use Rattle.expressions.specs.declared.Read.{Read}
 use Rattle.expressions.specs.declared.Read.the-variants as E
-use Rattle.reader.specs.declared.Answer.{Answer}
-use Rattle.reader.specs.declared.Answer.the-variants.{Accepted, Refused}
 
 -- behind the ad a: its nodes and bytes are stored
 abbrev pub ends : Ad → Mark
@@ -24,11 +22,6 @@ ends a = mark (nodes a) (length (adBytes a))
 -- the memory w with the ad a in it
 abbrev pub storedIn : Memory → Ad → Memory
 storedIn w a = memory (sets (sets (w .words) 0 (adNodes 0 0 a)) 4096 (adDefinitions 0 0 a)) (sets (w .bytes) 0 (adBytes a))
-
--- r is p, and where that is an ad, v with the ad in it is w′: 'accepted with its counts, or refused with number and byte place'
-abbrev pub AgreesAd : Memory → Memory → R.Answer → Answer → Type 0
-AgreesAd v w′ p (Accepted d n) = (a : Ad) × (p ≡ R.accepted a) × (d ≡ length a) × (n ≡ nodes a) × (w′ ≡ storedIn v a) × (length (adBytes a) ≤ length (v .bytes))
-AgreesAd v w′ p (Refused k q) = p ≡ R.denied k q
 
 -- what each is given: 'room for 1,024 nodes, 256 definitions and 16,384 bytes of names and strings'
 pub record AdRoom (s : List ℕ) (at d : ℕ) (m : Mark) (w : Memory) : Type 0 where
@@ -45,19 +38,6 @@ pub record Holds (d : ℕ) (m : Mark) (w : Memory) (v : Memory) (a : Ad) : Type 
   pub mark-of : m ≡ ends a
   pub memory-of : w ≡ storedIn v a
   pub short : m .bytes ≤ length (v .bytes)
-
--- 'definitions `name = expression` parted by `;`', from `]` or a Name on: the answer of `definitionsAt`
-abbrev pub DefinitionsOk : List ℕ → ℕ → ℕ → Mark → Memory → Memory → Answer → Type 0
-DefinitionsOk s at d m w w′ r = (f : ℕ) → left s at < f → (a : Ad) (v : Memory) → Holds d m w v a → AgreesAd v w′ (definitionsAt limits f (tokensAt s at) a (m .nodes)) r
-
--- from `;` or `]` on, behind a definition, the answer of `behindAt`: 'one further `;` allowed after the last, then `]`'
-abbrev pub BehindOk : List ℕ → ℕ → ℕ → Mark → Memory → Memory → Answer → Type 0
-BehindOk s at d m w w′ r = (f : ℕ) → left s at < f → (a : Ad) (v : Memory) → Holds d m w v a → AgreesAd v w′ (behindAt limits f (tokensAt s at) a (m .nodes)) r
-
--- behind `]`: '`[`, then definitions .., then `]`', and no further token
-abbrev pub EndOk : List ℕ → ℕ → ℕ → ℕ → Answer → Type 0
-EndOk s at d n (Accepted e k) = (e ≡ d) × (k ≡ n) × ((m : ℕ) × (tokensAt s at ≡ end m))
-EndOk s at d n (Refused k p) = (a : Ad) → endA (tokensAt s at) a ≡ R.denied k p
 
 -- the reader's way behind a Name w at p, from the place at on
 abbrev pub definitionAt : Tokens → List ℕ → ℕ → Ad → ℕ → (Expr → Tokens → R.Answer) → R.Answer

@@ -14,7 +14,7 @@ use Rattle.ad.specs.Layout.{exprNodes, exprBytes, adNodes, adDefinitions, adByt
 use Rattle.ad.specs.Inner.Names.{definedIn}
 use Rattle.ad.specs.Laws.Names.{names-in}
 use Rattle.leaves.specs.Inner.Marks.{Mark, mark, Memory, memory}
-use Rattle.reader.specs.Inner.Post.{storedIn, Holds, one}
+use Rattle.definition_reader.specs.Inner.Post.{storedIn, Holds, one}
 
 -- ---- one definition more
 

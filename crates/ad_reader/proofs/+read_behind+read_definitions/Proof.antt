@@ -4,22 +4,22 @@ use mathlib.Core.Path.{_≡_}
 use Prim.Native.Nat.{_-_}
 use lib.ListN.{length}
 use Rattle.leaves.specs.Inner.Marks.{mark, memory}
-use Rattle.reader.proofs.Laws.{definitions-close, definitions-none, definitions-refused, definitions-more, behind-more, behind-close, behind-none}
+use Rattle.ad_reader.proofs.Laws.{definitions-close, definitions-none, definitions-refused, definitions-more, behind-more, behind-close, behind-none}
 use Prim.Native.Nat.{ℕ, _<_}
 use borrow.Fn.Kinds.{In}
 use borrow.Fn.PlainCycle.{Measures, is, falls, and}
-use Rattle.reader.proofs.read_behind.Reads as read-behind
-use Rattle.reader.proofs.read_behind.Kinds as read-behind-kinds
-use Rattle.reader.proofs.+read_behind+read_definitions.Lts-read_behind as read-behind-lts
-use Rattle.reader.proofs.read_definitions.Reads as read-definitions
-use Rattle.reader.proofs.read_definitions.Kinds as read-definitions-kinds
-use Rattle.reader.proofs.+read_behind+read_definitions.Lts-read_definitions as read-definitions-lts
+use Rattle.ad_reader.proofs.read_behind.Reads as read-behind
+use Rattle.ad_reader.proofs.read_behind.Kinds as read-behind-kinds
+use Rattle.ad_reader.proofs.+read_behind+read_definitions.Lts-read_behind as read-behind-lts
+use Rattle.ad_reader.proofs.read_definitions.Reads as read-definitions
+use Rattle.ad_reader.proofs.read_definitions.Kinds as read-definitions-kinds
+use Rattle.ad_reader.proofs.+read_behind+read_definitions.Lts-read_definitions as read-definitions-lts
 use Rattle.lookahead.proofs.symbol_at.Reads as symbol-at-reads
 use Rattle.lookahead.proofs.word_at.Reads as word-at-reads
-use Rattle.reader.proofs.end_at.Reads as end-at-reads
-use Rattle.reader.proofs.read_definition.Reads as read-definition-reads
-use Rattle.reader.proofs.+read_behind+read_definitions.{statement}
-use Rattle.reader.proofs.+read_behind+read_definitions.Tie.{close}
+use Rattle.ad_reader.proofs.end_at.Reads as end-at-reads
+use Rattle.definition_reader.proofs.read_definition.Reads as read-definition-reads
+use Rattle.ad_reader.proofs.+read_behind+read_definitions.{statement}
+use Rattle.ad_reader.proofs.+read_behind+read_definitions.Tie.{close}
 
 abbrev μ-read-behind : Measures 3 read-behind-kinds.ps ℕ
 μ-read-behind κs a = length (a .0 .now) - a .1 .0

@@ -1,10 +1,10 @@
--- `inspection::definition_of` meets its contract. Assumes nothing.
+-- `holders::definition_of` meets its contract. Assumes nothing.
 use native.Mathlib.Omega.{arith}
 use mathlib.Core.Path.{sym, _∙_, subst}
 use Prim.Native.Nat.{ℕ, _-_, _≤_, _<_}
-use Rattle.inspection.proofs.Holders.{too-short, Searched, start, no-name, found, next, all-passed, long-enough}
-use Rattle.inspection.proofs.definition_of.Statement.{statement}
-use Rattle.inspection.proofs.definition_of.Tie as tie
+use Rattle.holders.proofs.Holders.{too-short, Searched, start, no-name, found, next, all-passed, long-enough}
+use Rattle.holders.proofs.definition_of.Statement.{statement}
+use Rattle.holders.proofs.definition_of.Tie as tie
 
 abbrev Inv-loop : tie.InvT-loop
 Inv-loop words node j₀ j = Searched words node 256 j

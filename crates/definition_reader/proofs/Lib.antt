@@ -1,0 +1,2 @@
+pub mod Ads
+pub mod Laws
