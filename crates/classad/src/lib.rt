@@ -6,7 +6,8 @@ ghost use Rattle.values.specs.declared.Value.the-variants.{Real};
 ghost use Rattle.reals.specs.Reals.{storedReal};
 ghost use Rattle.slots.specs.declared.Slot.the-variants.{Held};
 ghost use Rattle.slots.specs.Packed.{slotAt, Stored};
-ghost use Rattle.c_operators.specs.Operators.{binaryNamed, unaryNamed, binarySlot, unarySlot, conditionalSlot};
+ghost use Rattle.c_operators.specs.Operators.{binaryNamed, unaryNamed, binarySlot, unarySlot};
+ghost use Rattle.c_conditional.specs.Conditional.{conditionalSlot};
 ghost use Rattle.c_reading.specs.Reading.{Reported};
 ghost use Rattle.c_checking.specs.Checking.{CheckReported};
 ghost use Rattle.c_printing.specs.Printing.{PrintReported};
@@ -60,7 +61,7 @@ pub extern "C" fn classad_unary(kind: u64, operands: &[u64], result: &mut [u64])
 pub extern "C" fn classad_conditional(operands: &[u64], result: &mut [u64])
     ensures { λ _. ⌜ Stored (now (result .entry)) (now (result .exit)) 0 (conditionalSlot (slotAt (now (operands .entry)) 0) (slotAt (now (operands .entry)) 1) (slotAt (now (operands .entry)) 2)) ⌝ }
 {
-    c_operators::conditional(operands, result);
+    c_conditional::conditional(operands, result);
 }
 
 // A real literal's two stored numbers: its digits as one whole number, and how many stand after the point. 0.0 where no
@@ -69,7 +70,7 @@ pub extern "C" fn classad_conditional(operands: &[u64], result: &mut [u64])
 pub extern "C" fn classad_real(digits: u64, places: u64, result: &mut [u64])
     ensures { λ _. ⌜ Stored (now (result .entry)) (now (result .exit)) 0 (Held (Real (storedReal digits places))) ⌝ }
 {
-    c_operators::real(digits, places, result);
+    c_conditional::real(digits, places, result);
 }
 
 // Reads any text into any lent memory of an ad.

@@ -3,79 +3,12 @@ use ad_reader::Answer;
 use cli_arguments::Request;
 use cli_input::Input;
 use ordering::Order;
-use printer::Printed;
 
 // What is done with two ads; the number is a budget.
 enum Task {
     Match(u16),
     Trace(u16),
     Graph,
-}
-
-// Says that the text of the file i is refused.
-fn refused(out: &mut bool, i: usize, text: &[u8], refusal: u8, place: usize) {
-    cli_output::argument(out, i);
-    cli_refusals::refused(out, text, refusal, place);
-}
-
-fn check_text(out: &mut bool, i: usize, text: &[u8]) {
-    let mut words = [0u64; 4864];
-    let mut bytes = [0u8; 16384];
-    match reader::read(text, &mut words, &mut bytes) {
-        Answer::Accepted(d, n) => {
-            cli_output::argument(out, i);
-            cli_output::accepted(out, d, n);
-        }
-        Answer::Refused(k, p) => refused(out, i, text, k, p),
-    }
-}
-
-fn check_file(out: &mut bool, i: usize) {
-    let mut text = [0u8; 16385];
-    let Input::Text(k) = cli_input::read_argument(i, &mut text) else {
-        return;
-    };
-    check_text(out, i, ad::part(&text, 0, k));
-}
-
-// Once standard output is lost, nothing is said of the files that are left, not even that one cannot be read.
-fn check_files(out: &mut bool, count: usize) {
-    let mut i = 2;
-    while i < count {
-        if !*out {
-            return;
-        }
-        check_file(out, i);
-        i += 1;
-    }
-}
-
-fn print_stored(out: &mut bool, words: &[u64], bytes: &[u8]) {
-    let mut text = [0u8; 16384];
-    match printer::print(words, bytes, &mut text) {
-        Printed::Text(n) => {
-            cli_output::say(out, ad::part(&text, 0, n));
-            cli_output::say(out, b"\n");
-        }
-        Printed::Refused(k, p) => refused(out, 2, b"", k, p),
-    }
-}
-
-fn print_text(out: &mut bool, text: &[u8]) {
-    let mut words = [0u64; 4864];
-    let mut bytes = [0u8; 16384];
-    match reader::read(text, &mut words, &mut bytes) {
-        Answer::Accepted(_, _) => print_stored(out, &words, &bytes),
-        Answer::Refused(k, p) => refused(out, 2, text, k, p),
-    }
-}
-
-fn print_file(out: &mut bool) {
-    let mut text = [0u8; 16385];
-    let Input::Text(k) = cli_input::read_argument(2, &mut text) else {
-        return;
-    };
-    print_text(out, ad::part(&text, 0, k));
 }
 
 // Matches two stored ads, and shows each entry of the list where `trace` asks for it.
@@ -147,7 +80,7 @@ fn is_refused(out: &mut bool, i: usize, text: &[u8], answer: Answer) -> bool {
     match answer {
         Answer::Accepted(_, _) => false,
         Answer::Refused(k, p) => {
-            refused(out, i, text, k, p);
+            cli_ads::refused(out, i, text, k, p);
             true
         }
     }
@@ -208,8 +141,8 @@ fn pair_files(out: &mut bool, task: Task) {
 fn main() {
     let mut out = true;
     match cli_arguments::requested() {
-        Request::Check(count) => check_files(&mut out, count),
-        Request::Print => print_file(&mut out),
+        Request::Check(count) => cli_ads::check_files(&mut out, count),
+        Request::Print => cli_ads::print_file(&mut out),
         Request::Match(n) => pair_files(&mut out, Task::Match(n)),
         Request::Trace(n) => pair_files(&mut out, Task::Trace(n)),
         Request::Graph => pair_files(&mut out, Task::Graph),

@@ -1,4 +1,5 @@
 // The references between the definitions of two ads, as a text for Graphviz.
+use cli_output::byte;
 use cli_output::say;
 use cli_output::side;
 use cli_stored::Found;
@@ -20,11 +21,11 @@ fn put_lower(name: &[u8], room: &mut [u8]) -> usize {
 fn identity(out: &mut bool, second: bool, name: &[u8]) {
     let mut lower = [0u8; 64];
     let n = put_lower(name, &mut lower);
-    say(out, b"\"");
+    byte(out, b'"');
     side(out, second);
-    say(out, b".");
+    byte(out, b'.');
     say(out, ad::part(&lower, 0, n));
-    say(out, b"\"");
+    byte(out, b'"');
 }
 
 fn definition(out: &mut bool, second: bool, name: &[u8]) {

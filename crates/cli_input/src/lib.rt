@@ -1,5 +1,4 @@
 // The files of the command line.
-ghost use Prim.Native.Nat.{_≤_, _<_};
 ghost use Rattle.cli_input.specs.Input.{GotFits};
 
 // A file's text in the front part of the memory for it, or a failure, which was said.

@@ -1,6 +1,16 @@
 // How the command writes its lines. `out` is whether standard output takes what is written: once it does not, that is said on standard
 // error, and nothing more is written.
 
+const USAGE: [u8; 347] = *b"usage: classad check FILE..\n       \
+classad print FILE\n       \
+classad match FIRST SECOND [BUDGET]\n       \
+classad trace FIRST SECOND [BUDGET]\n       \
+classad graph FIRST SECOND\n       \
+classad help\n       \
+classad --version\n\
+FILE, FIRST and SECOND may be - for standard input, at most once.\n\
+BUDGET is digits, 0 to 65535; without it the budget is 65535.\n";
+
 pub fn say(out: &mut bool, bytes: &[u8]) {
     if !*out {
         return;
@@ -11,6 +21,10 @@ pub fn say(out: &mut bool, bytes: &[u8]) {
     *out = false;
     io::write_all(libc::STDERR_FILENO, b"classad: ");
     os::fail(b"standard output");
+}
+
+pub fn byte(out: &mut bool, b: u8) {
+    say(out, &[b]);
 }
 
 pub fn number(out: &mut bool, n: u64) {
@@ -40,33 +54,13 @@ pub fn side(out: &mut bool, second: bool) {
     say(out, b"first");
 }
 
-// A line of the usage text, on standard error where the command line is wrong.
-fn usage_line(out: &mut bool, wrong: bool, line: &[u8]) {
+// What the command takes, on standard error where the command line is wrong.
+pub fn usage(out: &mut bool, wrong: bool) {
     if wrong {
-        io::write_all(libc::STDERR_FILENO, line);
+        io::write_all(libc::STDERR_FILENO, &USAGE);
         return;
     }
-    say(out, line);
-}
-
-pub fn usage(out: &mut bool, wrong: bool) {
-    usage_line(out, wrong, b"usage: classad check FILE..\n");
-    usage_line(out, wrong, b"       classad print FILE\n");
-    usage_line(out, wrong, b"       classad match FIRST SECOND [BUDGET]\n");
-    usage_line(out, wrong, b"       classad trace FIRST SECOND [BUDGET]\n");
-    usage_line(out, wrong, b"       classad graph FIRST SECOND\n");
-    usage_line(out, wrong, b"       classad help\n");
-    usage_line(out, wrong, b"       classad --version\n");
-    usage_line(
-        out,
-        wrong,
-        b"FILE, FIRST and SECOND may be - for standard input, at most once.\n",
-    );
-    usage_line(
-        out,
-        wrong,
-        b"BUDGET is digits, 0 to 65535; without it the budget is 65535.\n",
-    );
+    say(out, &USAGE);
 }
 
 pub fn version(out: &mut bool) {

@@ -1,5 +1,6 @@
 // The lines of a refusal: why a text is refused, and where. Where a number has several causes, the bytes around the place tell which it
 // is.
+use cli_output::byte;
 use cli_output::counted;
 use cli_output::say;
 
@@ -219,7 +220,7 @@ fn caret(out: &mut bool, text: &[u8], place: usize, column: usize) {
     let mut line = [0u8; 16385];
     let n = put_line(ad::part(text, less(place, before), text.len()), &mut line);
     say(out, ad::part(&line, 0, n));
-    say(out, b"\n");
+    byte(out, b'\n');
     let blanks = [b' '; 16385];
     say(out, ad::part(&blanks, 0, before));
     say(out, b"^\n");

@@ -1,4 +1,5 @@
 // The list of a match, entry by entry.
+use cli_output::byte;
 use cli_output::number;
 use cli_output::say;
 use printer::Printed;
@@ -50,7 +51,7 @@ fn entry<'a>(
     say(out, b" -> ");
     let s = results::value_at(table, far, node);
     cli_values::slot(out, s, first_bytes, second_bytes);
-    say(out, b"\n");
+    byte(out, b'\n');
 }
 
 pub fn entries<'a>(

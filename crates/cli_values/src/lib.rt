@@ -1,5 +1,6 @@
 // How values are written.
 ghost use Prim.Native.Nat.{_≤_};
+use cli_output::byte;
 use cli_output::number;
 use cli_output::say;
 use slots::Slot;
@@ -10,7 +11,7 @@ fn integer(out: &mut bool, x: u32) {
         number(out, x as u64);
         return;
     }
-    say(out, b"-");
+    byte(out, b'-');
     number(out, 0x1_0000_0000 - x as u64);
 }
 
@@ -22,24 +23,28 @@ fn boolean(out: &mut bool, b: bool) {
     say(out, b"false");
 }
 
+fn escape(out: &mut bool, b: u8) {
+    say(out, &[b'\\', b]);
+}
+
 fn escaped(out: &mut bool, b: u8) {
     match b {
-        b'"' => say(out, b"\\\""),
-        b'\\' => say(out, b"\\\\"),
-        b'\n' => say(out, b"\\n"),
-        b'\t' => say(out, b"\\t"),
-        _ => say(out, &[b]),
+        b'"' => escape(out, b'"'),
+        b'\\' => escape(out, b'\\'),
+        b'\n' => escape(out, b'n'),
+        b'\t' => escape(out, b't'),
+        _ => byte(out, b),
     }
 }
 
 fn string(out: &mut bool, bytes: &[u8]) {
-    say(out, b"\"");
+    byte(out, b'"');
     let mut i = 0;
     while i < bytes.len() {
         escaped(out, bytes[i]);
         i += 1;
     }
-    say(out, b"\"");
+    byte(out, b'"');
 }
 
 // Some digits, one at least.
@@ -48,16 +53,16 @@ fn digits(out: &mut bool, decimal: &[u8], from: usize, end: usize) {
         say(out, ad::part(decimal, from, end - from));
         return;
     }
-    say(out, b"0");
+    byte(out, b'0');
 }
 
 fn exponent(out: &mut bool, first: usize) {
-    say(out, b"e");
+    byte(out, b'e');
     if first < decimals::POINT {
         number(out, (decimals::POINT - 1 - first) as u64);
         return;
     }
-    say(out, b"-");
+    byte(out, b'-');
     number(out, (first - decimals::POINT) as u64 + 1);
 }
 
@@ -66,7 +71,7 @@ fn scientific(out: &mut bool, d: &[u8; 1408], first: usize, last: usize)
     requires { ⌜ first ≤ 1408 ⌝ }
 {
     digits(out, d, first, first + 1);
-    say(out, b".");
+    byte(out, b'.');
     digits(out, d, first + 1, last);
     exponent(out, first);
 }
@@ -84,7 +89,7 @@ fn finite(out: &mut bool, bits: u64) {
         return;
     }
     digits(out, &d, s.first, decimals::POINT);
-    say(out, b".");
+    byte(out, b'.');
     digits(out, &d, decimals::POINT, s.last);
 }
 
@@ -95,7 +100,7 @@ fn real(out: &mut bool, bits: u64) {
         return;
     }
     if bits != size {
-        say(out, b"-");
+        byte(out, b'-');
     }
     if size == 0x7FF0_0000_0000_0000 {
         say(out, b"infinity");
@@ -118,7 +123,7 @@ fn value<'a>(out: &mut bool, v: Value, first_bytes: &'a [u8], second_bytes: &'a 
         Value::String(side, offset, length) => {
             string(
                 out,
-                results::string_bytes(first_bytes, second_bytes, side, offset, length),
+                values::part(first_bytes, second_bytes, side, offset, length),
             )
         }
     }

@@ -1,4 +1,5 @@
 // The lines behind a match: the verdict with its reasons, the ranks and the steps.
+use cli_output::byte;
 use cli_output::counted;
 use cli_output::say;
 use cli_output::side;
@@ -42,7 +43,7 @@ fn reason<'a>(
     side(out, second);
     say(out, b" Requirements is ");
     cli_values::slot(out, slot, first_bytes, second_bytes);
-    say(out, b"\n");
+    byte(out, b'\n');
 }
 
 fn verdict<'a>(
@@ -68,13 +69,13 @@ fn verdict<'a>(
 fn ranks(out: &mut bool, first: u32, second: u32) {
     counted(out, b"first rank ", first as u64);
     counted(out, b"\nsecond rank ", second as u64);
-    say(out, b"\n");
+    byte(out, b'\n');
 }
 
 fn steps(out: &mut bool, done: usize, length: usize) {
     counted(out, b"steps ", done as u64);
     counted(out, b" of ", length as u64);
-    say(out, b"\n");
+    byte(out, b'\n');
 }
 
 // What a match gave, which left the table and a list of this length.

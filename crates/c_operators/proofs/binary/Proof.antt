@@ -2,7 +2,7 @@
 use mathlib.Core.Path.{subst, _∙_}
 use denote.Ref.{now}
 use Rattle.c_operators.specs.Operators.{binarySlot}
-use Rattle.c_operators.proofs.Three.{ap₃}
+use Rattle.c_conditional.proofs.Three.{ap₃}
 use Rattle.slots.specs.Packed.{Stored}
 use borrow.Author.Needs.{needs}
 use Rattle.c_operators.proofs.binary.Statement.{statement}

@@ -1,11 +1,11 @@
--- `c_operators::conditional` meets its contract. Assumes nothing.
+-- `c_conditional::conditional` meets its contract. Assumes nothing.
 use mathlib.Core.Path.{subst, _∙_}
-use Rattle.c_operators.specs.Operators.{conditionalSlot}
-use Rattle.c_operators.proofs.Three.{ap₃}
+use Rattle.c_conditional.specs.Conditional.{conditionalSlot}
+use Rattle.c_conditional.proofs.Three.{ap₃}
 use Rattle.slots.specs.Packed.{Stored}
 use borrow.Author.Needs.{needs}
-use Rattle.c_operators.proofs.conditional.Statement.{statement}
-use Rattle.c_operators.proofs.conditional.Tie as tie
+use Rattle.c_conditional.proofs.conditional.Statement.{statement}
+use Rattle.c_conditional.proofs.conditional.Tie as tie
 
 returns : tie.Need-returns
 returns c =

@@ -1,11 +1,11 @@
--- `c_operators::real` meets its contract. Assumes nothing.
+-- `c_conditional::real` meets its contract. Assumes nothing.
 use mathlib.Core.Path.{ap, subst}
 use Rattle.values.specs.declared.Value.the-variants.{Real}
 use Rattle.slots.specs.declared.Slot.the-variants.{Held}
 use Rattle.slots.specs.Packed.{Stored}
 use borrow.Author.Needs.{needs}
-use Rattle.c_operators.proofs.real.Statement.{statement}
-use Rattle.c_operators.proofs.real.Tie as tie
+use Rattle.c_conditional.proofs.real.Statement.{statement}
+use Rattle.c_conditional.proofs.real.Tie as tie
 
 returns : tie.Need-returns
 returns c =

@@ -1,8 +1,8 @@
--- `classad_cli::check_files` is safe and ends. Assumes nothing.
+-- `cli_ads::check_files` is safe and ends. Assumes nothing.
 use Prim.Native.Nat.{_-_}
 use borrow.Author.Needs.{needs}
-use Rattle.classad_cli.proofs.check_files.Statement.{statement}
-use Rattle.classad_cli.proofs.check_files.Tie as tie
+use Rattle.cli_ads.proofs.check_files.Statement.{statement}
+use Rattle.cli_ads.proofs.check_files.Tie as tie
 
 abbrev Inv-loop : tie.InvT-loop
 Inv-loop out₀ count i₀ out i = Unit {0}

@@ -1,9 +1,9 @@
--- `c_operators::conditional_slot` meets its contract. Assumes nothing.
+-- `c_conditional::conditional_slot` meets its contract. Assumes nothing.
 use mathlib.Core.Path.{ap}
 use Rattle.slots.specs.declared.Slot.the-variants.{Held}
 use borrow.Author.Needs.{needs}
-use Rattle.c_operators.proofs.conditional_slot.Statement.{statement}
-use Rattle.c_operators.proofs.conditional_slot.Tie as tie
+use Rattle.c_conditional.proofs.conditional_slot.Statement.{statement}
+use Rattle.c_conditional.proofs.conditional_slot.Tie as tie
 
 returns-4 : tie.Need-returns-4
 returns-4 c =
