@@ -70,7 +70,9 @@ fn main() -> ExitCode {
     };
     let one = RUNS.iter().find(|run| run.name == name.as_str());
     let good = match (one, name.as_str(), numbers) {
-        (Some(run), _, numbers) => Cases::of(run.name, numbers).map(|cases| finish(run, &cases, "")),
+        (Some(run), _, numbers) => {
+            Cases::of(run.name, numbers).map(|cases| finish(run, &cases, ""))
+        }
         (None, "all", [seed, count]) => all(seed, count),
         _ => None,
     };
@@ -105,7 +107,11 @@ fn all(seed: &str, count: &str) -> Option<bool> {
     let next = AtomicUsize::new(0);
     let good = RUNS.each_ref().map(|_| AtomicBool::new(false));
     let work = || {
-        while let Some(at) = Some(next.fetch_add(1, Ordering::Relaxed)).filter(|&at| at < RUNS.len()) {
+        // The last takes longest, so it begins first.
+        while let Some(at) = RUNS
+            .len()
+            .checked_sub(1 + next.fetch_add(1, Ordering::Relaxed))
+        {
             let run = &RUNS[at];
             let cases = Cases::new(run.name, seed, 0, (count * run.share).div_ceil(1_000));
             good[at].store(finish(run, &cases, "\n"), Ordering::Relaxed);

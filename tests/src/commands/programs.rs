@@ -9,12 +9,14 @@ use std::process::{self, Stdio};
 /// How much of an output is shown.
 const SHOWN: usize = 800;
 
+const KIT_LIBRARIES: &str = "KIT_LIBRARIES";
+
 pub struct Program {
     pub name: &'static str,
     /// Where it is built, from the repository's root.
     pub path: &'static str,
-    /// What starts it.
-    start: &'static str,
+    /// Whether it is linked with the C library of the Rattle kit, in the folder that KIT_LIBRARIES names.
+    of_the_kit: bool,
     /// Whether its exit status is that of docs/COMMANDS.md.
     has_status: bool,
 }
@@ -23,19 +25,19 @@ pub const PROGRAMS: [Program; 3] = [
     Program {
         name: "reference",
         path: "reference/target/release/reference",
-        start: "reference/target/release/reference",
+        of_the_kit: false,
         has_status: true,
     },
     Program {
         name: "classad",
         path: "bindings/rust/target/release/classad",
-        start: "bindings/rust/target/release/classad",
+        of_the_kit: false,
         has_status: true,
     },
     Program {
         name: "classad_cli",
         path: "target/bin/classad_cli",
-        start: "bin/classad_cli",
+        of_the_kit: true,
         has_status: false,
     },
 ];
@@ -113,8 +115,23 @@ impl Program {
         each.reduce(Output::and).unwrap_or_default()
     }
 
+    /// What starts it; as `bin/classad_cli` does, but for looking at what it was built from.
+    fn command(&self) -> process::Command {
+        let program = root().join(self.path);
+        if !self.of_the_kit {
+            return process::Command::new(program);
+        }
+        let libraries =
+            std::env::var_os(KIT_LIBRARIES).expect("tests/run names the kit's libraries");
+        let libraries = PathBuf::from(libraries);
+        let mut command = process::Command::new(libraries.join("ld-linux-x86-64.so.2"));
+        command.arg("--library-path").arg(libraries).arg(program);
+        command
+    }
+
     fn start(&self, word: &str, files: &[String], input: Option<&[u8]>, folder: &Path) -> Output {
-        let mut child = process::Command::new(root().join(self.start))
+        let mut child = self
+            .command()
             .arg(word)
             .args(files)
             .current_dir(folder)
