@@ -52,8 +52,8 @@ module _ (s w b w′ b′ : List ℕ) where
       part : {z : List ℕ} (n : ℕ) (x y : List ℕ) → z ≡ x ++ y → length x ≡ n → take n z ≡ x
       part n x y e l = ap (take n) e ∙ take-at x y n l
 
--- a text over the bound is not accepted
-long : (s : List ℕ) → ltb textBytes (length s) ≡ true → R.read s ≡ R.denied 2 0
+-- a text over the bound is not accepted: 'text over 16,384 bytes'
+pub long : (s : List ℕ) → ltb textBytes (length s) ≡ true → R.read s ≡ R.denied 2 0
 unfolding R.read
 long s h = rw h refl
 

@@ -7,7 +7,6 @@ use borrow.Author.Tests.{lt-ltb, le-ltb}
 use Rattle.well_formed.specs.WellFormed.{Answers}
 use Rattle.well_formed.specs.declared.Checked.{Checked}
 use Rattle.well_formed.specs.declared.Checked.the-variants.{WellFormed, Malformed}
-use Rattle.c_checking.proofs.Three.{ap₃}
 use mathlib.Core.List.{[], _∷_}
 use Rattle.c_checking.specs.Checking.{CheckReported, no-room, malformed, well-formed}
 use Rattle.c_checking.specs.Inner.Numbers.{checkNumbers}
@@ -21,5 +20,5 @@ module _ (w b : List ℕ) where
 
   pub checked : (r : Checked) {n : List ℕ} → 4864 ≤ length w → 16384 ≤ length b → Answers w b r → n ≡ checkNumbers r → CheckReported w b n
   checked (WellFormed d m k) h i (a, x, y, z, u) e =
-      well-formed (rw (le-ltb (length w) 4864 h, le-ltb (length b) 16384 i) refl) a x (e ∙ ap₃ (λ (p q r : ℕ). 0 ∷ p ∷ q ∷ r ∷ []) y z u)
+      well-formed (rw (le-ltb (length w) 4864 h, le-ltb (length b) 16384 i) refl) a x (e ∙ (λ j. 0 ∷ y j ∷ z j ∷ u j ∷ []))
   checked Malformed h i f e = malformed (rw (le-ltb (length w) 4864 h, le-ltb (length b) 16384 i) refl) f e

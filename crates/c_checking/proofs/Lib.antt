@@ -1,2 +1,1 @@
-pub mod Three
 pub mod Checking

@@ -17,6 +17,7 @@ use Rattle.ad.specs.Layout.{adWords, adBytesRoom, storedWords, storedBytes}
 use Rattle.well_formed.specs.WellFormed.{Holds}
 use Rattle.well_formed.specs.Laws.Bounds.{bounded, read-holds}
 use Rattle.well_formed.specs.Laws.Whole.{holds-long}
+use Rattle.acceptance.specs.Acceptance.{long}
 use Rattle.well_formed.specs.Laws.Named.{bounded-named}
 use Rattle.ad.specs.Stored.{nodeCount}
 use Rattle.links.specs.Inner.Asked.{Formed}
@@ -33,11 +34,6 @@ pub record ReadAs (s w b w′ b′ : List ℕ) (r : Answer) (a : Ad) : Type 0 wh
   -- 'Unused room is zero after acceptance'; 'Memory lent beyond these sizes is never changed.'
   pub words : w′ ≡ storedWords a ++ drop adWords w
   pub bytes : b′ ≡ storedBytes a ++ drop adBytesRoom b
-
--- a text over the bound is not accepted: 'text over 16,384 bytes'
-long : (s : List ℕ) → ltb textBytes (length s) ≡ true → R.read s ≡ R.denied 2 0
-unfolding R.read
-long s h = rw h refl
 
 short-text : (s : List ℕ) (a : Ad) → R.read s ≡ R.accepted a → ltb textBytes (length s) ≡ false
 short-text s a e = go (ltb textBytes (length s)) refl
