@@ -30,7 +30,7 @@ pub fn match_ads(
 )
     ensures { λ _. ⌜ MatchReported (now («first_words» .entry)) (now («first_bytes» .entry)) (now («second_words» .entry)) (now («second_bytes» .entry)) budget (now (table .entry)) (now (list .entry)) (now (table .exit)) (now (list .exit)) (now (answer .exit)) ⌝ }
 {
-    let outcome = matching::match_ads(
+    let outcome = matcher::match_ads(
         first_words,
         first_bytes,
         second_words,

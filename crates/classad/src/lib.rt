@@ -24,7 +24,7 @@ ghost use mathlib.Core.Bool.{not};
 pub use holders::definition_name;
 pub use holders::definition_of;
 pub use inspection::expression;
-pub use matching::match_ads;
+pub use matcher::match_ads;
 pub use ordering::order_ads;
 pub use positions::locate;
 pub use printer::print;

@@ -23,7 +23,7 @@ fn match_stored<'a>(
 ) {
     let mut table = [0u64; 4096];
     let mut list = [0u64; 2048];
-    let outcome = matching::match_ads(
+    let outcome = matcher::match_ads(
         first,
         first_bytes,
         second,

@@ -1,14 +1,13 @@
 // The match of two stored ads.
-use admission::Admission;
 ghost use mathlib.Core.Path.{_≡_};
 ghost use lib.ListN.{length, replicate};
 ghost use Rattle.links.specs.Pair.{pairSlots};
 ghost use Rattle.links.specs.Inner.Asked.{Formed};
 ghost use Rattle.dependency.specs.Inner.Asked.{Ready};
-ghost use Rattle.matching.specs.Matching.{tableWords, Match, Matched};
+ghost use Rattle.matching.specs.Matching.{tableWords, Match};
 
-// Two words for each slot.
-const VALUES: usize = 2 * links::SLOTS;
+// How many words the table has: two for each slot.
+pub const VALUES: usize = 2 * links::SLOTS;
 
 // What a match answers: a refusal's number and place; verdict, both ranks and steps of a finished one; or the steps done. The last
 // number is how many transitions its traversal took.
@@ -71,7 +70,7 @@ fn match_marked(
 }
 
 // The match of two well-formed ads in a table of 2,048 slots and a list's room of 2,048 entries, whatever they hold.
-fn match_formed(
+pub fn match_formed(
     first_words: &[u64],
     first_bytes: &[u8],
     second_words: &[u64],
@@ -98,39 +97,4 @@ fn match_formed(
         table,
         budget,
     )
-}
-
-// THE MATCH of two stored ads, whatever is lent.
-pub fn match_ads(
-    first_words: &[u64],
-    first_bytes: &[u8],
-    second_words: &[u64],
-    second_bytes: &[u8],
-    table: &mut [u64],
-    list: &mut [u64],
-    budget: u16,
-) -> Outcome
-    ensures { λ r. ⌜ Matched (now («first_words» .entry)) (now («first_bytes» .entry)) (now («second_words» .entry)) (now («second_bytes» .entry)) budget (now (table .entry)) (now (list .entry)) (now (table .exit)) (now (list .exit)) r ⌝ }
-{
-    let admitted = admission::admit(
-        first_words,
-        first_bytes,
-        second_words,
-        second_bytes,
-        table.len(),
-        VALUES,
-        list.len(),
-    );
-    match admitted {
-        Admission::Refused(k) => Outcome::Refused(k, 0),
-        Admission::Admitted => match_formed(
-            &first_words[..ad::WORDS],
-            &first_bytes[..ad::BYTES],
-            &second_words[..ad::WORDS],
-            &second_bytes[..ad::BYTES],
-            &mut table[..VALUES],
-            &mut list[..admission::ENTRIES],
-            budget,
-        ),
-    }
 }

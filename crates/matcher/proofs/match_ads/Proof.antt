@@ -2,10 +2,10 @@ use mathlib.Core.Path.{refl, sym}
 use lib.Seq.{length-take-le}
 use Rattle.admission.specs.Laws.Refusing.{refusal-told, admission-told}
 use Rattle.admission.specs.Laws.Rooms.{fit, first-words-front, first-bytes-front, second-words-front, second-bytes-front, first-formed, second-formed}
 use Rattle.matching.specs.Matching.{refused, matches}
 use borrow.Author.Needs.{needs}
-use Rattle.matching.proofs.match_ads.Statement.{statement}
-use Rattle.matching.proofs.match_ads.Tie as tie
+use Rattle.matcher.proofs.match_ads.Statement.{statement}
+use Rattle.matcher.proofs.match_ads.Tie as tie
 
 slice-aggregate-match-formed : tie.Need-slice-aggregate-match-formed
 slice-aggregate-match-formed c =
