@@ -1,7 +1,5 @@
--- What is proved of the grammar, the reader's definition and stored ads together.
-pub mod Tokens
+-- What is proved of the grammar and the reader's definition together.
 pub mod Counting
-pub mod Accepted
 pub mod Alike
 pub mod Places
 pub mod Expressions

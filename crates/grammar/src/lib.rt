@@ -1,1 +1,1 @@
-// What is proved of the grammar, the reader's definition and stored ads together: in specs/Laws.
+// What is proved of the grammar and the reader's definition together: in specs/Laws.

@@ -11,7 +11,7 @@ use Rattle.text.specs.Laws.Booleans.{and-left}
 use Rattle.text.specs.Bytes.{bytes}
 use Rattle.syntax.specs.Tree.{Literal, undefined, error, boolean, integer, real, string, own, other, Expr, literal, reference}
 use Rattle.syntax.specs.Print.{decimal, literalText, referenceText, printed}
-use Rattle.lexemes.specs.Inner.Lexeme.{isName, isString, isReal}
+use Rattle.syntax.specs.Inner.Lexeme.{isName, isString, isReal}
 use Rattle.ad.specs.Stored.{kindAt, operandAt, bytesAt}
 use Rattle.writer.specs.Inner.Put.{Near}
 use Rattle.tree_check.specs.Inner.Decode.{Found, got, bad, test, keywordFits, booleanFits, integerFits, standsAt, leafOf, leafAt}

@@ -13,7 +13,7 @@ use Rattle.syntax.specs.Token.{reserved}
 use Rattle.syntax.specs.Tree.{real}
 use Rattle.syntax.specs.Print.{escaped, escapedAll, literalText}
 use Rattle.lexemes.specs.Laws.Digits.{real-more}
-use Rattle.lexemes.specs.Inner.Lexeme.{every, isOneOf, isName}
+use Rattle.syntax.specs.Inner.Lexeme.{every, isOneOf, isName}
 
 -- ---- all bytes of a class, one after another
 

@@ -8,7 +8,7 @@ ghost use Rattle.text.specs.Bytes.{continuesName};
 ghost use Rattle.syntax.specs.Tree.{real, string};
 ghost use Rattle.syntax.specs.Token.{reserved};
 ghost use Rattle.syntax.specs.Print.{decimal, escaped, literalText};
-ghost use Rattle.lexemes.specs.Inner.Lexeme.{every, isOneOf, isName, inString, isString, isReal};
+ghost use Rattle.syntax.specs.Inner.Lexeme.{every, isOneOf, isName, inString, isString, isReal};
 
 pub fn both(a: bool, b: bool) -> bool
     ensures { λ r. ⌜ r ≡ (a && b) ⌝ }

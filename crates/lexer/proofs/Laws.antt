@@ -9,7 +9,7 @@ use lib.ListN.{length, getD, take, drop, length-append, length-drop, drop-of-len
 use lib.Seq.{slice, slice-empty, length-slice, getD-drop}
 use lib.Dec.{leb, eqb}
 use borrow.Author.Tests.{lt-ltb, le-ltb, le-leb, lt-leb, eq-eqb, ne-eqb, leb-true, leb-false, eqb-true}
-use Rattle.syntax.specs.Laws.Marks.{value-append, begins-short}
+use Rattle.syntax.specs.Laws.FrontTokens.{FrontFits, symbol-fits, value-append}
 use Rattle.text.specs.Bytes.{bytes, isBlank, isDigit, startsName, continuesName}
 use Rattle.text.specs.Strings.{sameName}
 use Rattle.text.specs.Parts.{drop-one, slice-back, slice-snoc, slice-one, drop-behind}
@@ -428,28 +428,6 @@ short-first : (b c d : ℕ) → symbolIn (drop 8 spellings) (b ∷ c ∷ d ∷ [
 unfolding symbolIn spellings begins bytes
 short-first b c d = refl
 
--- every spelling has a byte
-abbrev Spelled : List Spelling → Type 0
-Spelled [] = Unit {0}
-Spelled (x ∷ ss) = (1 ≤ length (x .text)) × Spelled ss
-
-abbrev Fits : ℕ → Front → Type 0
-Fits n (good t k) = (1 ≤ k) × (k ≤ n)
-Fits n (wrong k) = Unit {0}
-
-symbol-fits : (ss : List Spelling) (l : List ℕ) → Spelled ss → Fits (length l) (symbolIn ss l)
-unfolding symbolIn
-symbol-fits [] l h = tt
-symbol-fits (x ∷ ss) l h = go (begins (x .text) l) refl (symbol-fits ss l (h .1))
-  where
-    go : (b : Bool) → begins (x .text) l ≡ b → Fits (length l) (symbolIn ss l) → Fits (length l) (pick (begins (x .text) l) (λ _. good (x .token) (length (x .text))) (λ _. symbolIn ss l))
-    go true e f = rw e (h .0, begins-short (x .text) l e)
-    go false e f = rw e f
-
-spelled : Spelled spellings
-unfolding spellings bytes
-spelled = omega arith
-
 module _ (s : List ℕ) (p : ℕ) (c d : ℕ) (hc : c ≡ getD s (p + 1) 0) (hd : d ≡ getD s (p + 2) 0) where
   sign-split : symbolIn spellings (drop p s) ≡ orElse (symbolIn (take 8 spellings) (getD s p 0 ∷ c ∷ d ∷ [])) (symbolIn (drop 8 spellings) (getD s p 0 ∷ []))
   sign-split =
@@ -457,11 +435,11 @@ module _ (s : List ℕ) (p : ℕ) (c d : ℕ) (hc : c ≡ getD s (p + 1) 0) (hd 
       three (drop p s) ∙ (rw (getD-drop p s 0 0, getD-drop p s 1 0, getD-drop p s 2 0, ← hc, ← hd, z) (split 8 spellings (getD s p 0 ∷ c ∷ d ∷ []) ∙ ap (orElse (symbolIn (take 8 spellings) (getD s p 0 ∷ c ∷ d ∷ []))) (short-first (getD s p 0) c d)))
 
   fits-at : (r : Sign) → p < length s → signFront r ≡ symbolIn spellings (drop p s) → SignFits s p r
-  fits-at r h e = go r (subst (Fits (length (drop p s))) (sym e) (symbol-fits spellings (drop p s) spelled))
+  fits-at r h e = go r (subst (FrontFits (length (drop p s))) (sym e) (symbol-fits (drop p s)))
     where
-      go : (r : Sign) → Fits (length (drop p s)) (signFront r) → SignFits s p r
-      go (G.Operator j n) f = (f .0, omega (arith, length-drop p s))
-      go (G.Symbol x n) f = (f .0, omega (arith, length-drop p s))
+      go : (r : Sign) → FrontFits (length (drop p s)) (signFront r) → SignFits s p r
+      go (G.Operator j n) f = (f .taken, omega (arith, f .within, length-drop p s))
+      go (G.Symbol x n) f = (f .taken, omega (arith, f .within, length-drop p s))
       go G.Nothing f = tt
 
   pub sign-long : (r : Sign) (t : T.Token) (n : ℕ) → p < length s → signFront r ≡ symbolIn (take 8 spellings) (getD s p 0 ∷ c ∷ d ∷ []) → signFront r ≡ good t n → SignMeans s p r

@@ -7,7 +7,7 @@ use Rattle.syntax.specs.Bounds.{maxLevel}
 use Rattle.syntax.specs.Tree.{Expr, literal, reference, unary, binary, conditional, Ad}
 use Rattle.syntax.specs.Grammar.{Within}
 use Rattle.syntax.specs.Print.{adLevel}
-use Rattle.lexemes.specs.Inner.Lexeme.{isName, isLiteral}
+use Rattle.syntax.specs.Inner.Lexeme.{isName, isLiteral}
 
 -- every name and literal of an expression is one that a text can write
 unfoldable pub isWritable : Expr → Bool

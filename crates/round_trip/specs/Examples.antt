@@ -16,7 +16,7 @@ use Rattle.syntax.specs.Laws.Accepts.{ad-complete}
 use Rattle.syntax.specs.Print.{digits, literalText, referenceText, binaryText, unaryText, binds, printed, definitionsText, printedAd, levelOf, adLevel}
 use Rattle.syntax.specs.declared.Binary.the-variants.{Add, Multiply}
 use Rattle.syntax.specs.declared.Unary.the-variants.{Minus}
-use Rattle.lexemes.specs.Inner.Lexeme.{every, isOneOf, isName, isLiteral}
+use Rattle.syntax.specs.Inner.Lexeme.{every, isOneOf, isName, isLiteral}
 use Rattle.round_trip.specs.Bounded.{isWritable, areWritable, Bounded}
 use Rattle.round_trip.specs.WithoutPair.{pair-here, pair-left, DefinitionsWithoutPair, pair-in-last}
 use Rattle.round_trip.specs.Printed.{exprTokens, parentheses}

@@ -5,4 +5,5 @@ pub mod Grammar
 pub mod Reader
 pub mod Print
 pub mod Examples
+pub mod Inner
 pub mod Laws

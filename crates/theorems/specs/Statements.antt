@@ -23,7 +23,7 @@ use Rattle.syntax.specs.Laws.Accepts as grammar
 use Rattle.syntax.specs.Laws.Longest as longest
 use Rattle.ad.specs.Layout.{adBytes, adWords, adBytesRoom, storedWords, storedBytes}
 use Rattle.grammar.specs.Refusal.{Refused}
-use Rattle.grammar.specs.Laws.Accepted as content
+use Rattle.well_formed.specs.Laws.Named as content
 use Rattle.round_trip.specs.Bounded.{Bounded}
 use Rattle.round_trip.specs.WithoutPair.{DefinitionsWithoutPair, inBrackets}
 use Rattle.round_trip.specs.Laws.Readable as readable

@@ -12,7 +12,7 @@ use Rattle.text.specs.Laws.Booleans.{and-left, and-right}
 use Rattle.text.specs.Bytes.{bytes}
 use Rattle.syntax.specs.Tree.{Literal, undefined, error, boolean, integer, real, string, own, other, literal, reference}
 use Rattle.syntax.specs.Print.{decimal, literalText, referenceText, binds, printed, levelOf}
-use Rattle.lexemes.specs.Inner.Lexeme.{every, inString, isName, isString, isReal}
+use Rattle.syntax.specs.Inner.Lexeme.{every, inString, isName, isString, isReal}
 use Rattle.ad.specs.Layout.{literalBytes, exprBytes}
 use Rattle.ad.specs.Stored.{kindAt, operandAt, bytesAt}
 use Rattle.tree_check.specs.Inner.Decode.{Found, got, bad, test, keywordFits, booleanFits, integerFits, standsAt, leafOf, leafAt, Same, walkIf, plainWalk}

@@ -11,7 +11,7 @@ ghost use Rattle.syntax.specs.Bounds.{maxNodes};
 ghost use Rattle.ad.specs.Layout.{adWords, adBytesRoom};
 ghost use Rattle.syntax.specs.Tree.{real, string};
 ghost use Rattle.syntax.specs.Print.{decimal, literalText, binaryText};
-ghost use Rattle.lexemes.specs.Inner.Lexeme.{isName, isString, isReal};
+ghost use Rattle.syntax.specs.Inner.Lexeme.{isName, isString, isReal};
 ghost use Rattle.ad.specs.Stored.{bytesAt};
 ghost use Rattle.tree_check.specs.declared.Walk.the-variants.{Tree};
 ghost use Rattle.tree_check.specs.Inner.Decode.{keywordFits, booleanFits, integerFits, standsAt, leafAt, Same, WalkOk, walkIf, plainWalk, unaryWalk, binaryWalk, conditionalWalk, Room};

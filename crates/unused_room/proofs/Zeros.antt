@@ -8,7 +8,7 @@ use mathlib.Core.Path.{_≡_, refl, sym, _∙_}
 use mathlib.Core.Bool.{Bool, true, false, _&&_}
 use mathlib.Core.List.{List}
 use lib.ListN.{length, drop, getD}
-use Rattle.lexemes.specs.Inner.Lexeme.{every}
+use Rattle.syntax.specs.Inner.Lexeme.{every}
 use Rattle.lexemes.proofs.Laws.{every-more, every-stop, every-end}
 use Rattle.unused_room.specs.Inner.Zeros.{isZero}
 

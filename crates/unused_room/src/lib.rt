@@ -6,7 +6,7 @@ ghost use Prim.Native.Nat.{_+_, _*_, _≤_, _<_};
 ghost use lib.ListN.{length};
 ghost use Rattle.syntax.specs.Bounds.{maxDefinitions, maxNodes};
 ghost use Rattle.ad.specs.Layout.{adWords, adBytesRoom};
-ghost use Rattle.lexemes.specs.Inner.Lexeme.{every};
+ghost use Rattle.syntax.specs.Inner.Lexeme.{every};
 ghost use Rattle.unused_room.specs.Inner.Zeros.{isZero, zeroBehind};
 
 // Whether all was zero, and x is. The loops below look at everything and stop nowhere, which a machine does many numbers at a time.

@@ -14,7 +14,7 @@ use Rattle.text.specs.Bytes.{startsName, continuesName}
 use Rattle.syntax.specs.Tree.{Definition, Ad, size, nodes}
 use Rattle.syntax.specs.Token.{reserved}
 use Rattle.syntax.specs.Print.{levelOf}
-use Rattle.lexemes.specs.Inner.Lexeme.{every, isOneOf, isName}
+use Rattle.syntax.specs.Inner.Lexeme.{every, isOneOf, isName}
 use Rattle.ad.specs.Layout.{exprBytes, adBytes}
 use Rattle.ad.specs.Stored.{offsetAt, lengthAt, rootAt, bytesAt}
 use Rattle.ad.specs.Laws.Content.{size-some}

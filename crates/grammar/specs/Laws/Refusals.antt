@@ -10,12 +10,11 @@ use lib.Dec.{ltb}
 use borrow.Author.Tests.{ltb-true, ltb-false}
 use Rattle.syntax.specs.Bounds.{textBytes}
 use Rattle.syntax.specs.Tree.{Ad}
-use Rattle.syntax.specs.Token.{Token, Tokens, next, end, bad, pick, tokens}
+use Rattle.syntax.specs.Token.{Token, Tokens, next, end, pick, tokens}
 use Rattle.syntax.specs.Grammar.{IsAd, Within, Follows, none, some, Whole}
 use Rattle.syntax.specs.Reader.{Answer, accepted, denied, parse, read}
 use Rattle.syntax.specs.Laws.Accepts.{accepts, refusals}
 use Rattle.grammar.specs.Refusal.{Keeps, Breaks, unfit, deep, twice, many, Refuses, own, early, token, Refusal, Refused, long, within}
-use Rattle.grammar.specs.Laws.Tokens.{Own, Lexed, tokens-lexed, follows-lexed}
 use Rattle.grammar.specs.Laws.Counting.{keeps-front, ad-keeps}
 use Rattle.grammar.specs.Laws.Ads.{AllA, ad-ends}
 
@@ -132,8 +131,3 @@ read-refusal s k p = go (ltb textBytes (length s)) refl
 pub one-answer : (s : List ℕ) (r : Answer) → ((a : Ad) → r ≡ accepted a → (ts : List Token) × Whole (tokens s) ts × IsAd ts a × Within a) → ((k p : ℕ) → r ≡ denied k p → Refusal (tokens s) k p) → r ≡ parse s
 one-answer s (accepted a) f g = sym (accepts s a .1 (f a refl))
 one-answer s (denied k p) f g = sym (refusal s k p .1 (g k p refl))
-
--- A TOKEN THAT IS REFUSED BY ITSELF has the number 3, 5 or 7
-pub own-number : (s : List ℕ) (ts : List Token) (k p : ℕ) → Follows (tokens s) ts (bad k p) → Own k
-unfolding Lexed
-own-number s ts k p f = follows-lexed f (tokens-lexed s)

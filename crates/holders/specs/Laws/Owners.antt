@@ -14,7 +14,8 @@ use Rattle.ad.specs.Stored.{lengthAt, rootAt}
 use Rattle.ad.specs.Laws.Content.{size-some}
 use Rattle.well_formed.specs.WellFormed.{Holds}
 use Rattle.well_formed.specs.Laws.Bounds.{bounded}
-use Rattle.well_formed.specs.Laws.Definitions.{name-some, Table, table-row}
+use Rattle.syntax.specs.Laws.FrontTokens.{name-some}
+use Rattle.well_formed.specs.Laws.Definitions.{Table, table-row}
 use Rattle.well_formed.specs.Laws.Whole.{holds-table, stop-zero, holds-long}
 use Rattle.holders.specs.Holders.{ownerFrom, owner, holderFrom, holder}
 use Rattle.holders.specs.declared.Holder.the-variants as found

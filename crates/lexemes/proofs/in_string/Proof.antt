@@ -1,4 +1,4 @@
-use Rattle.lexemes.specs.Inner.Lexeme.{inString}
+use Rattle.syntax.specs.Inner.Lexeme.{inString}
 use borrow.Author.Needs.{needs}
 use Rattle.lexemes.proofs.in_string.Statement.{statement}
 use Rattle.lexemes.proofs.in_string.Tie as tie

@@ -1,4 +1,4 @@
-use Rattle.lexemes.specs.Inner.Lexeme.{isReal}
+use Rattle.syntax.specs.Inner.Lexeme.{isReal}
 use borrow.Author.Needs.{needs}
 use Rattle.lexemes.proofs.is_real.Statement.{statement}
 use Rattle.lexemes.proofs.is_real.Tie as tie

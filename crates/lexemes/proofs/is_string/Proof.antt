@@ -1,4 +1,4 @@
-use Rattle.lexemes.specs.Inner.Lexeme.{isString}
+use Rattle.syntax.specs.Inner.Lexeme.{isString}
 use borrow.Author.Needs.{needs}
 use Rattle.lexemes.proofs.is_string.Statement.{statement}
 use Rattle.lexemes.proofs.is_string.Tie as tie

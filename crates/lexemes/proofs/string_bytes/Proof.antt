@@ -1,8 +1,8 @@
 use mathlib.Core.Path.{_≡_, refl, sym, _∙_}
 use Prim.Native.Nat.{_-_, _≤_}
-use Rattle.lexemes.specs.Inner.Lexeme.{inString}
+use Rattle.syntax.specs.Inner.Lexeme.{inString}
 use lib.ListN.{length, drop}
-use Rattle.lexemes.specs.Inner.Lexeme.{every}
+use Rattle.syntax.specs.Inner.Lexeme.{every}
 use Rattle.lexemes.proofs.Laws.{every-more, every-stop, every-end}
 use borrow.Author.Needs.{needs}
 use native.Mathlib.Omega.{arith}

@@ -1,5 +1,5 @@
 use mathlib.Core.Path.{sym, _∙_}
-use Rattle.syntax.specs.Laws.Marks.{starts-continues}
+use Rattle.syntax.specs.Laws.FrontTokens.{starts-continues}
 use Rattle.lexer.proofs.Laws.{scan-end, scan-name, scan-number, scan-string, scan-symbol}
 use borrow.Author.Needs.{needs}
 use Rattle.lexer.proofs.token_from.Statement.{statement}

@@ -10,7 +10,7 @@ use lib.ListN.{length, getD, length-append}
 use lib.Seq.{drop-append-seam}
 use lib.Dec.{ltb, leb, eqb}
 use borrow.Author.Tests.{ltb-true, leb-true, eqb-true, le-ltb, le-leb, lt-leb, ne-eqb, not-true}
-use Rattle.syntax.specs.Laws.Marks.{value-append}
+use Rattle.syntax.specs.Laws.FrontTokens.{value-append, every-append}
 use Rattle.text.specs.Laws.Booleans.{both, neither}
 use Rattle.text.specs.Bytes.{bytes, between, isBlank, isDigit, isLetter, startsName, continuesName}
 use Rattle.text.specs.Strings.{sameName}
@@ -18,7 +18,7 @@ use Rattle.syntax.specs.Bounds.{nameBytes, stringBytes, maxInteger, realDigits}
 use Rattle.syntax.specs.Tree.{integer, real, string}
 use Rattle.syntax.specs.Token.{Token, word, constant, pick, good, frontOf, Spelling, reserved, wordIn, nameFront, valueFrom, valueOf, fractionOf, integerFront, realFront, numberFront, closed, escapeOf, bodyOf, frontToken}
 use Rattle.syntax.specs.Print.{digits, decimal, lastDigits, escaped, escapedAll}
-use Rattle.lexemes.specs.Inner.Lexeme.{every, isOneOf, isName, inString, isString, isReal}
+use Rattle.syntax.specs.Inner.Lexeme.{every, isOneOf, isName, inString, isString, isReal}
 use Rattle.lexemes.specs.Laws.Digits.{decimal-short, length-last}
 
 -- ---- where a name or a number ends
@@ -107,11 +107,6 @@ name-token b w m h h′ = rw (h .starts) (name-front (b ∷ w) m h h′)
 digit-is : (d : ℕ) → d < 10 → isDigit (48 + d) ≡ true
 unfolding isDigit
 digit-is d h = rw (le-leb 48 (48 + d) (omega arith), le-leb (48 + d) 57 (omega arith)) refl
-
-pub every-append : (class : ℕ → Bool) (xs ys : List ℕ) → every class xs ≡ true → every class ys ≡ true → every class (xs ++ ys) ≡ true
-unfolding every
-every-append class [] ys h h′ = h′
-every-append class (x ∷ xs) ys h h′ = let z = both (class x) (every class xs) h in rw (z .0) (every-append class xs ys (z .1) h′)
 
 one-digit : (d : ℕ) → d < 10 → every isDigit ((48 + d) ∷ []) ≡ true
 unfolding every

@@ -22,7 +22,7 @@ use Rattle.syntax.specs.declared.Binary.the-variants.{Or, And, Equal, NotEqual,
 use Rattle.syntax.specs.declared.Unary.{Unary}
 use Rattle.syntax.specs.declared.Unary.the-variants.{Not, Plus, Minus}
 use Rattle.syntax.specs.declared.Symbol.the-variants.{Question, Colon, OpenParenthesis, CloseParenthesis, OpenBracket, CloseBracket, Semicolon, Assign, Point, Other}
-use Rattle.lexemes.specs.Inner.Lexeme.{every, isName, isReal, isString, isLiteral}
+use Rattle.syntax.specs.Inner.Lexeme.{every, isName, isReal, isString, isLiteral}
 use Rattle.round_trip.specs.Bounded.{isWritable, areWritable}
 use Rattle.lexemes.specs.Laws.Digits.{length-last}
 use Rattle.round_trip.specs.Printed.{wrapTokens, referenceTokens, exprTokens, definitionTokens, adTokens}

@@ -14,18 +14,19 @@ use Rattle.syntax.specs.Token.{pick}
 use Rattle.syntax.specs.Reader.{accepted, denied, parse, read}
 use Rattle.syntax.specs.Print.{printedAd}
 use Rattle.syntax.specs.Laws.Accepts.{accepts}
+use Rattle.syntax.specs.Laws.FrontTokens.{tokens-written}
 use Rattle.ad.specs.Layout.{adBytes, adBytesRoom}
 use Rattle.round_trip.specs.Bounded.{Bounded}
 use Rattle.round_trip.specs.Laws.RoundTrip.{round-trip}
 use Rattle.round_trip.specs.Laws.Deepest.{shallow-ad}
 use Rattle.round_trip.specs.Laws.Fits.{accepted-fits}
-use Rattle.round_trip.specs.Laws.Written.{tokens-written, writable-ad}
+use Rattle.round_trip.specs.Laws.Written.{writable-ad}
 
 -- EVERY ACCEPTED TREE IS WITHIN THE BOUNDS, levels of its printed text included
 pub accepted-bounded : (s : List ℕ) (a : Ad) → parse s ≡ accepted a → Bounded a
 accepted-bounded s a e =
     let x = accepts s a .0 e in
-    record { within = x .3; writable = writable-ad (x .2) (tokens-written s (x .0) (x .1 .0) (x .1 .1)); shallow = shallow-ad (x .2) }
+    record { within = x .3; writable = writable-ad (x .2) (tokens-written s (x .0) (x .1 .1)); shallow = shallow-ad (x .2) }
 
 -- SOME TEXT READS AS THE TREE EXACTLY IF IT IS WITHIN THE BOUNDS
 pub readable : (a : Ad) → ((s : List ℕ) × (parse s ≡ accepted a)) ↔ Bounded a

@@ -18,7 +18,7 @@ use Rattle.syntax.specs.Laws.Accepts.{accepts}
 use Rattle.syntax.specs.declared.Binary.{Binary}
 use Rattle.syntax.specs.declared.Unary.{Unary}
 use Rattle.syntax.specs.declared.Symbol.the-variants.{Question, Colon, OpenBracket, CloseBracket, Semicolon, Assign}
-use Rattle.lexemes.specs.Inner.Lexeme.{isName}
+use Rattle.syntax.specs.Inner.Lexeme.{isName}
 use Rattle.round_trip.specs.Bounded.{isWritable, areWritable}
 use Rattle.round_trip.specs.Printed.{wrapTokens, exprTokens, definitionTokens, adTokens, parentheses}
 use Rattle.round_trip.specs.WithoutPair.{WithoutPair, pair-here, pair-operand, pair-left, pair-right, pair-condition, pair-then, pair-else, DefinitionsWithoutPair, pair-in-last, pair-in-first, pair-in-later, inBrackets}

@@ -4,17 +4,18 @@ use Prim.Native.Nat.{ℕ, zero, suc, _+_, _≤_, _<_}
 use native.Mathlib.Omega.{arith}
 use mathlib.Core.Path.{_≡_, refl, sym, _∙_, ap}
 use mathlib.Core.Logic.{_↔_}
-use mathlib.Core.Bool.{false, true≢false}
+use mathlib.Core.Bool.{Bool, true, false, true≢false, false≢true, _||_}
 use mathlib.Core.List.{List, [], _∷_, _++_, append-assoc}
 use lib.ListN.{length, length-append}
-use borrow.Author.Tests.{lt-leb}
+use lib.Dec.{eqb}
+use borrow.Author.Tests.{lt-leb, eqb-true}
 use Rattle.syntax.specs.Tree.{Expr, Definition, Ad, size, nodes}
-use Rattle.syntax.specs.Token.{Token, word, symbol, Tokens, end, tokens}
+use Rattle.syntax.specs.Token.{Token, word, symbol, Tokens, next, end, bad, tokens}
 use Rattle.syntax.specs.Grammar.{ReadsTo, DefinesTo, defines-one, defines-more, AdTo, IsAd, ad-empty, ad-plain, ad-trailing, NewAfter, Within, Follows, none, some, Whole}
 use Rattle.syntax.specs.Reader.{accepted, denied, Limits, limits, count, enough, definitionsAt, behindAt, adAt, parse}
-use Rattle.syntax.specs.Laws.Sound.{Number}
+use Rattle.syntax.specs.Laws.Sound.{Number, Marked}
 use Rattle.syntax.specs.Laws.SoundAd.{AllA, Accepted, ad-sound}
-use Rattle.syntax.specs.Laws.Marks.{from-marked}
+use Rattle.syntax.specs.Laws.FrontTokens.{carried, Own, AllFit, fit-within, tokens-fit}
 use Rattle.syntax.specs.Laws.Complete.{Stops, never, follows-split, conditional-complete}
 use Rattle.syntax.specs.declared.Symbol.the-variants.{CloseBracket, Semicolon, Assign}
 
@@ -86,10 +87,25 @@ module _ (L : Limits) where
   ad-complete (ad-trailing {ts} d) u m (some {u = v} g) hc ha hn =
       defines-complete d (symbol Semicolon ∷ symbol CloseBracket ∷ []) trailing v m [] 0 (enough v) g (omega (arith, follows-count g)) (omega arith) (omega arith) hn
 
+own-range : (k : ℕ) → Own k → (3 ≤ k) × (k ≤ 9)
+own-range k = go (eqb k 3) (eqb k 5) (eqb k 7) refl refl refl
+  where
+    go : (a b c : Bool) → eqb k 3 ≡ a → eqb k 5 ≡ b → eqb k 7 ≡ c → (a || b || c) ≡ true → (3 ≤ k) × (k ≤ 9)
+    go true b c x y z h = omega (arith, eqb-true k 3 x)
+    go false true c x y z h = omega (arith, eqb-true k 5 y)
+    go false false true x y z h = omega (arith, eqb-true k 7 z)
+    go false false false x y z h = absurd (false≢true h)
+
+fit-marked : (n q : ℕ) (u : Tokens) → AllFit n q u → Marked n u
+unfolding AllFit Marked
+fit-marked n q (next p t u) h = (omega (arith, fit-within n (p + carried t) u (h .2)), fit-marked n (p + carried t) u (h .2))
+fit-marked n q (end m) h = omega (arith, h .1)
+fit-marked n q (bad k p) h = let x = own-range k (h .2) in record { low = x .0; high = x .1; within = h .1 }
+
 -- what is read from a text
 parse-sound : (s : List ℕ) → AllA (length s) (Accepted (length s) limits (tokens s)) (parse s)
 unfolding parse
-parse-sound s = ad-sound (length s) limits (tokens s) (from-marked (length s) 0 0 s (omega arith))
+parse-sound s = ad-sound (length s) limits (tokens s) (fit-marked (length s) 0 (tokens s) (tokens-fit s))
 
 -- THE READER IS THE GRAMMAR: a text of any length is accepted with the tree a exactly if its tokens are an ad of the grammar with
 -- the tree a, within the bounds

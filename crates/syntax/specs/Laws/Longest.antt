@@ -11,6 +11,7 @@ use borrow.Author.Tests.{leb-true, eqb-true, not-true}
 use Rattle.text.specs.Laws.Booleans.{both, neither}
 use Rattle.text.specs.Bytes.{bytes, isDigit, isLetter, startsName}
 use Rattle.syntax.specs.Token.{Token, Front, good, wrong, Spelling, spellings, begins, symbolIn, frontToken}
+use Rattle.syntax.specs.Inner.Lexeme.{every}
 use Rattle.syntax.specs.Laws.Codes.{on-pick}
 
 -- ---- symbols
@@ -23,11 +24,6 @@ pub data Longest (ss : List Spelling) (l : List ℕ) : Front → Type 0 where
       Longest ss l (good (s .token) (length (s .text)))
   -- 'no token starts here': no spelling of the table begins the text.
   nothing : ((r : Spelling) → List·Memᴰ r ss → begins (r .text) l ≡ false) → Longest ss l (wrong 3)
-
--- whether every spelling of a table passes a test
-unfoldable every : (Spelling → Bool) → List Spelling → Bool
-every test [] = true
-every test (s ∷ ss) = test s && every test ss
 
 each-passes : (test : Spelling → Bool) (ss : List Spelling) → every test ss ≡ true → (r : Spelling) → List·Memᴰ r ss → test r ≡ true
 unfolding every

@@ -1,6 +1,6 @@
 use mathlib.Core.Path.{sym, _∙_, ap}
 use mathlib.Core.Bool.{_&&_}
-use Rattle.lexemes.specs.Inner.Lexeme.{isName}
+use Rattle.syntax.specs.Inner.Lexeme.{isName}
 use Rattle.ad.specs.Stored.{bytesAt}
 use Rattle.tree_check.specs.Inner.Decode.{standsAt}
 use Rattle.tree_check.proofs.Tests.{walk-if, walk-bad, stands-room}

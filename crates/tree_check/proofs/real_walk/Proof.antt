@@ -1,7 +1,7 @@
 use mathlib.Core.Path.{sym, _∙_, ap}
 use Rattle.tree_check.proofs.Tests.{walk-if, walk-bad, places-few}
 use Rattle.tree_check.specs.Inner.Decode.{plainWalk}
-use Rattle.lexemes.specs.Inner.Lexeme.{isReal}
+use Rattle.syntax.specs.Inner.Lexeme.{isReal}
 use borrow.Author.Needs.{needs}
 use Rattle.tree_check.proofs.real_walk.Statement.{statement}
 use Rattle.tree_check.proofs.real_walk.Tie as tie

@@ -2,7 +2,7 @@ use mathlib.Core.Path.{sym, _∙_, ap}
 use mathlib.Core.Bool.{_&&_}
 use Prim.Native.Nat.{ℕ, _+_}
 use lib.ListN.{length}
-use Rattle.lexemes.specs.Inner.Lexeme.{isString}
+use Rattle.syntax.specs.Inner.Lexeme.{isString}
 use Rattle.ad.specs.Stored.{bytesAt}
 use Rattle.syntax.specs.Tree.{string}
 use Rattle.syntax.specs.Print.{literalText}

@@ -11,7 +11,7 @@ use Rattle.syntax.specs.Token.{pick}
 use Rattle.syntax.specs.Grammar.{bindsOf}
 use Rattle.syntax.specs.Print.{binaryText, binds, printed, wrapLevel, levelOf}
 use Rattle.syntax.specs.declared.Binary.{Binary}
-use Rattle.lexemes.specs.Inner.Lexeme.{isName, isString, isReal}
+use Rattle.syntax.specs.Inner.Lexeme.{isName, isString, isReal}
 use Rattle.ad.specs.Layout.{exprBytes}
 use Rattle.ad.specs.Stored.{kindAt, operandAt, bytesAt, unaryOf, binaryOf}
 use Rattle.node_shapes.specs.declared.Shape.{Shape}

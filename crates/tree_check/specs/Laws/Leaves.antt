@@ -10,7 +10,7 @@ use borrow.Author.Tests.{leb-true, eqb-true, eq-eqb}
 use Rattle.text.specs.Laws.Booleans.{and-left, and-right}
 use Rattle.syntax.specs.Tree.{Literal, undefined, error, boolean, integer, real, string, Scope, own, other, Expr, literal, reference, size}
 use Rattle.syntax.specs.Token.{pick}
-use Rattle.lexemes.specs.Inner.Lexeme.{isName, isString, isLiteral}
+use Rattle.syntax.specs.Inner.Lexeme.{isName, isString, isLiteral}
 use Rattle.ad.specs.Layout.{scopeKind, node, literalNode, literalBytes, exprBytes, exprNodes}
 use Rattle.ad.specs.Stored.{kindAt, operandAt, bytesAt}
 use Rattle.round_trip.specs.Bounded.{isWritable}

@@ -18,7 +18,7 @@ use Rattle.syntax.specs.declared.Binary.{Binary}
 use Rattle.syntax.specs.declared.Binary.the-variants.{Or, And, Equal, NotEqual, Is, Isnt, Less, LessOrEqual, Greater, GreaterOrEqual, Add, Subtract, Multiply, Divide, Remainder}
 use Rattle.syntax.specs.declared.Unary.{Unary}
 use Rattle.syntax.specs.declared.Unary.the-variants.{Not, Plus, Minus}
-use Rattle.lexemes.specs.Inner.Lexeme.{isReal, isLiteral}
+use Rattle.syntax.specs.Inner.Lexeme.{isReal, isLiteral}
 use Rattle.lexemes.specs.Laws.Digits.{decimal-short, real-short}
 use Rattle.ad.specs.Layout.{literalBytes, exprBytes}
 use Rattle.round_trip.specs.Bounded.{isWritable}

@@ -12,7 +12,7 @@ use Rattle.syntax.specs.Bounds.{maxInteger, stringBytes, realDigits}
 use Rattle.syntax.specs.Tree.{Literal, undefined, error, boolean, integer, real, string, Scope, Expr, literal, reference, unary, binary, conditional, Ad, size}
 use Rattle.syntax.specs.declared.Binary.{Binary}
 use Rattle.syntax.specs.declared.Unary.{Unary}
-use Rattle.lexemes.specs.Inner.Lexeme.{isLiteral, isReal, isString, every, inString}
+use Rattle.syntax.specs.Inner.Lexeme.{isLiteral, isReal, isString, every, inString}
 use Rattle.ad.specs.Layout.{literalBytes, storedWords, storedBytes}
 use Rattle.ad.specs.Stored.{bytesAt}
 use Rattle.graph.specs.Graph.{Flags, needs}

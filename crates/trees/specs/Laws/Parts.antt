@@ -9,7 +9,7 @@ use lib.ListN.{length, getD, length-append}
 use lib.Seq.{getD-at}
 use Rattle.text.specs.Laws.Booleans.{and-left, and-right}
 use Rattle.syntax.specs.Tree.{undefined, Expr, literal, reference, unary, binary, conditional, Ad, size, nodes}
-use Rattle.lexemes.specs.Inner.Lexeme.{isName}
+use Rattle.syntax.specs.Inner.Lexeme.{isName}
 use Rattle.round_trip.specs.Bounded.{isWritable, areWritable}
 use Rattle.trees.specs.Nodes.{Node, leaf, refers, ofOne, ofTwo, ofThree, lastOf, nodesOf, nodesIn, nthNode}
 use Rattle.trees.specs.Values.{Defines, defines-first, defines-later, Part, whole, under, left, right, test, taken, otherwise}

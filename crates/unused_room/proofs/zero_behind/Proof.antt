@@ -2,7 +2,7 @@ use mathlib.Core.Path.{_∙_, ap}
 use Prim.Native.Nat.{_+_, _*_}
 use Rattle.unused_room.proofs.Zeros.{rest-all}
 use Rattle.lexemes.proofs.Laws.{ands}
-use Rattle.lexemes.specs.Inner.Lexeme.{every}
+use Rattle.syntax.specs.Inner.Lexeme.{every}
 use Rattle.unused_room.specs.Inner.Zeros.{isZero}
 use borrow.Author.Needs.{needs}
 use Rattle.unused_room.proofs.zero_behind.Statement.{statement}

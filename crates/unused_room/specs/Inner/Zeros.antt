@@ -4,7 +4,7 @@ use mathlib.Core.Bool.{Bool, _&&_}
 use mathlib.Core.List.{List}
 use lib.ListN.{take, drop}
 use lib.Dec.{eqb}
-use Rattle.lexemes.specs.Inner.Lexeme.{every}
+use Rattle.syntax.specs.Inner.Lexeme.{every}
 
 -- whether a word or a byte is zero
 abbrev pub isZero : ℕ → Bool

@@ -2,7 +2,7 @@ use mathlib.Core.Path.{_∙_, ap}
 use mathlib.Core.Bool.{_&&_}
 use lib.Dec.{ltb, leb}
 use Rattle.syntax.specs.Bounds.{maxNodes}
-use Rattle.lexemes.specs.Inner.Lexeme.{isName}
+use Rattle.syntax.specs.Inner.Lexeme.{isName}
 use Rattle.lexemes.proofs.Laws.{ands}
 use Rattle.ad.specs.Stored.{bytesAt}
 use Rattle.tree_check.specs.Inner.Decode.{standsAt}

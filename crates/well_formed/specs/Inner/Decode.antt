@@ -9,7 +9,7 @@ use Rattle.syntax.specs.Bounds.{maxNodes, maxLevel}
 use Rattle.syntax.specs.Tree.{Expr, Ad, nodes}
 use Rattle.syntax.specs.Token.{pick}
 use Rattle.syntax.specs.Print.{definitionText, levelOf}
-use Rattle.lexemes.specs.Inner.Lexeme.{isName}
+use Rattle.syntax.specs.Inner.Lexeme.{isName}
 use Rattle.ad.specs.Layout.{exprBytes, adBytes}
 use Rattle.ad.specs.Stored.{offsetAt, lengthAt, rootAt, bytesAt}
 use Rattle.ad.specs.Inner.Names.{definedIn}

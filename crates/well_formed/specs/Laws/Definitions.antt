@@ -14,8 +14,8 @@ use Rattle.syntax.specs.Bounds.{maxNodes, maxLevel}
 use Rattle.syntax.specs.Tree.{Expr, Definition, Ad, size, nodes}
 use Rattle.syntax.specs.Token.{pick}
 use Rattle.syntax.specs.Print.{levelOf, adLevel}
-use Rattle.text.specs.Bytes.{startsName, isLetter}
-use Rattle.lexemes.specs.Inner.Lexeme.{isName}
+use Rattle.syntax.specs.Inner.Lexeme.{isName}
+use Rattle.syntax.specs.Laws.FrontTokens.{name-some}
 use Rattle.ad.specs.Layout.{exprBytes, exprNodes, adBytes, adNodes, adDefinitions}
 use Rattle.ad.specs.Stored.{offsetAt, lengthAt, rootAt, bytesAt}
 use Rattle.ad.specs.Laws.Content.{length-nodes, size-some}
@@ -165,12 +165,6 @@ ad-few (suc k) w b j n o =
     any bad = tt
 
 -- ---- COMPLETE
-
--- a name has bytes
-pub name-some : (l : List ℕ) → isName l ≡ true → 0 < length l
-unfolding isName startsName isLetter
-name-some [] h = let z : _≡_ {A = ℕ} 0 1 = cc in absurd (omega arith)
-name-some (b ∷ l) h = omega arith
 
 -- the first definition of some, and those behind it
 pub record Row (w b : List ℕ) (j n o : ℕ) (d : Definition) (a : Ad) : Type 0 where

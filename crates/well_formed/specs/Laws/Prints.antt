@@ -10,7 +10,7 @@ use Rattle.text.specs.Laws.Booleans.{and-left, and-right}
 use Rattle.text.specs.Bytes.{bytes}
 use Rattle.syntax.specs.Tree.{Definition, Ad, nodes}
 use Rattle.syntax.specs.Print.{printed, definitionText, definitionsText, printedAd}
-use Rattle.lexemes.specs.Inner.Lexeme.{isName}
+use Rattle.syntax.specs.Inner.Lexeme.{isName}
 use Rattle.ad.specs.Layout.{exprBytes, adBytes}
 use Rattle.round_trip.specs.Bounded.{isWritable, areWritable}
 use Rattle.well_formed.specs.Inner.Decode.{rowsLength}

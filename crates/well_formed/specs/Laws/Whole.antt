@@ -11,7 +11,7 @@ use borrow.Author.Tests.{eqb-true, not-true}
 use Rattle.text.specs.Laws.Booleans.{and-left, and-right, and-both}
 use Rattle.syntax.specs.Tree.{Definition, Ad, size, nodes}
 use Rattle.syntax.specs.Grammar.{defined, NewAfter, Distinct, Within}
-use Rattle.lexemes.specs.Inner.Lexeme.{every}
+use Rattle.syntax.specs.Inner.Lexeme.{every}
 use Rattle.ad.specs.Layout.{exprBytes, adBytes, adNodes, adDefinitions, storedWords, storedBytes}
 use Rattle.ad.specs.Stored.{offsetAt, lengthAt, bytesAt}
 use Rattle.ad.specs.Inner.Names.{definedIn}

@@ -7,12 +7,12 @@ use lib.ListN.{length, getD}
 use lib.Dec.{ltb, leb, eqb}
 use Rattle.text.specs.Bytes.{between, startsName, continuesName}
 use Rattle.text.specs.Strings.{sameName}
 use Rattle.syntax.specs.Bounds.{nameBytes, stringBytes, maxInteger, realDigits}
 use Rattle.syntax.specs.Tree.{Literal, undefined, error, boolean, integer, real, string}
 use Rattle.syntax.specs.Token.{Spelling, reserved}
 
--- whether all of some bytes are of a class
-unfoldable pub every : (ℕ → Bool) → List ℕ → Bool
+-- whether all of some bytes, or of some spellings, are of a class
+unfoldable pub every : {A : Type 0} → (A → Bool) → List A → Bool
 every class [] = true
 every class (b ∷ l) = class b && every class l
 
