@@ -9,7 +9,7 @@ ghost use lib.Seq.{sets, slice};
 ghost use Rattle.syntax.specs.Bounds.{maxDefinitions, maxNodes};
 ghost use Rattle.text.specs.Strings.{sameName};
 ghost use Rattle.ad.specs.Layout.{node, nodeWords, adWords};
-ghost use Rattle.ad.specs.Stored.{kindAt, operandAt, offsetAt, lengthAt, rootAt, bytesAt, nodeCount, definitionCount, nameAt, arity, isReference, unaryOf, binaryOf};
+ghost use Rattle.ad.specs.Stored.{kindAt, operandAt, offsetAt, lengthAt, rootAt, bytesAt, nameAt, arity, isReference, unaryOf, binaryOf};
 ghost use Rattle.ad.specs.Inner.Names.{definedIn};
 
 // The room of an ad: 1,024 nodes of four words, behind them 256 definitions of three, and 16,384 bytes.
@@ -127,36 +127,6 @@ pub fn name_length(words: &[u64], j: usize) -> usize
     ensures { λ r. ⌜ r ≡ lengthAt (now (words .entry)) j ⌝ }
 {
     index(words[NODE_WORDS + 3 * j + 1])
-}
-
-// How many nodes are stored.
-pub fn count_nodes(words: &[u64]) -> usize
-    requires { ⌜ adWords ≤ length (now words) ⌝ }
-    ensures { λ r. ⌜ r ≡ nodeCount (now (words .entry)) ⌝ }
-{
-    let mut i: usize = 0;
-    while i < syntax::NODES {
-        if kind(words, i) == 0 {
-            return i;
-        }
-        i += 1;
-    }
-    i
-}
-
-// How many definitions are stored.
-pub fn count_definitions(words: &[u64]) -> usize
-    requires { ⌜ adWords ≤ length (now words) ⌝ }
-    ensures { λ r. ⌜ r ≡ definitionCount (now (words .entry)) ⌝ }
-{
-    let mut j: usize = 0;
-    while j < syntax::DEFINITIONS {
-        if name_length(words, j) == 0 {
-            return j;
-        }
-        j += 1;
-    }
-    j
 }
 
 // The bytes from a place on, cut to what the memory holds.

@@ -1,17 +1,17 @@
 // Whether two stored ads are admitted to a call that is lent them: the rooms are large enough, and both ads are well formed.
+use links::Counts;
 use well_formed::Checked;
 ghost use mathlib.Core.Path.{_≡_};
-ghost use mathlib.Core.Bool.{true, false};
-ghost use Rattle.admission.specs.Admission.{Well, smallPair};
+ghost use Rattle.admission.specs.Admission.{smallPair};
 ghost use Rattle.admission.specs.Inner.Admitting.{Admitting};
 
 // How many entries the list of a match has room for.
 pub const ENTRIES: usize = links::SLOTS;
 
-// A refusal's number, or none.
+// A refusal's number; or how many nodes and definitions the first ad and the second have.
 pub enum Admission {
     Refused(u8),
-    Admitted,
+    Admitted(Counts, Counts),
 }
 
 // Whether the lent memory is smaller than the room of two ads, of `room` numbers, of which `lent` are there, and of 2,048 entries.
@@ -44,17 +44,7 @@ fn too_small(
     entries < ENTRIES
 }
 
-// Whether the lent memory holds no well-formed ad.
-fn malformed(words: &[u64], bytes: &[u8]) -> bool
-    ensures { λ r. ⌜ (r ≡ true → ¬ (Well (now (words .entry)) (now (bytes .entry)))) × (r ≡ false → Well (now (words .entry)) (now (bytes .entry))) ⌝ }
-{
-    match well_formed::check(words, bytes) {
-        Checked::WellFormed(_, _, _) => false,
-        Checked::Malformed => true,
-    }
-}
-
-// Tests the rooms, then the first ad, then the second.
+// Tests the rooms, then the first ad, then the second; the check counts what it meets.
 pub fn admit(
     first_words: &[u64],
     first_bytes: &[u8],
@@ -77,11 +67,21 @@ pub fn admit(
     ) {
         return Admission::Refused(1);
     }
-    if malformed(first_words, first_bytes) {
+    let first = well_formed::check(first_words, first_bytes);
+    let Checked::WellFormed(d, n, _) = first else {
         return Admission::Refused(10);
-    }
-    if malformed(second_words, second_bytes) {
+    };
+    let second = well_formed::check(second_words, second_bytes);
+    let Checked::WellFormed(e, m, _) = second else {
         return Admission::Refused(10);
-    }
-    Admission::Admitted
+    };
+    let p = Counts {
+        nodes: n,
+        definitions: d,
+    };
+    let q = Counts {
+        nodes: m,
+        definitions: e,
+    };
+    Admission::Admitted(p, q)
 }

@@ -221,7 +221,7 @@ pub record Turn (v b w c roots : List ℕ) (nv dv nw dw n count : ℕ) (pl : Pla
   pub ls-same : length ls ≡ length ls₀
 
 pub turn-first : {v w : List ℕ} (b c : List ℕ) {roots : List ℕ} {nv dv nw dw n : ℕ} {pl : Place} {len : ℕ} {ta ma fl ls : List ℕ} → Measured v nv dv → Measured w nw dw →
-    roots ≡ pairGraph v b w c .roots → Ready v w ta fl ls → ma ≡ replicate markWords 0 → n ≡ length roots → pl ≡ cond (ltb 0 (nv + nw)) (Resolving 0) (Between 0) → len ≡ 0 →
+    roots ≡ pairGraph v b w c .roots → Ready ta fl ls → ma ≡ replicate markWords 0 → n ≡ length roots → pl ≡ cond (ltb 0 (nv + nw)) (Resolving 0) (Between 0) → len ≡ 0 →
     Turn v b w c roots nv dv nw dw n 0 pl len ta ma fl ls ta ma fl ls
 turn-first {v} {w} b c p q re r me ne e z = record {
   first-is = p;

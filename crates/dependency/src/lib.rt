@@ -76,7 +76,7 @@ fn run(
     list: &mut [u64],
 ) -> Taken
     requires ads { ⌜ Measured (now «first_words») (p .nodes) (p .definitions) × Measured (now «second_words») (q .nodes) (q .definitions) × (now roots ≡ pairGraph (now «first_words») (now «first_bytes») (now «second_words») (now «second_bytes») .roots) × Fingerprints (now «first_words») (now «first_bytes») (now «second_words») (now «second_bytes») (now prints) ⌝ }
-    requires ready { ⌜ Ready (now «first_words») (now «second_words») (now target) (now flag) (now list) × (now marks ≡ replicate markWords 0) ⌝ }
+    requires ready { ⌜ Ready (now target) (now flag) (now list) × (now marks ≡ replicate markWords 0) ⌝ }
     ensures { λ r. ⌜ Traversed (pairGraph (now («first_words» .entry)) (now («first_bytes» .entry)) (now («second_words» .entry)) (now («second_bytes» .entry))) (r .count) (r .length) (now (target .exit)) (now (flag .exit)) (now (list .exit)) ⌝ }
 {
     let n = roots.len();
@@ -109,40 +109,41 @@ fn run(
     }
 }
 
-// The traversal of two stored ads: from clear targets, flags and an empty list, each of 2,048 numbers or more, to the targets and flags of
+// The traversal of two stored ads, whose counts are given: from clear targets, flags and an empty list, each of 2,048 numbers or more, to the targets and flags of
 // their references and the list. The other marks are its own.
 pub fn traverse(
     first_words: &[u64],
     first_bytes: &[u8],
+    first_counts: Counts,
     second_words: &[u64],
     second_bytes: &[u8],
+    second_counts: Counts,
     target: &mut [usize],
     flag: &mut [usize],
     list: &mut [u64],
 ) -> Traversal
-    requires { ⌜ Ready (now «first_words») (now «second_words») (now target) (now flag) (now list) ⌝ }
+    requires ads { ⌜ Measured (now «first_words») («first_counts» .nodes) («first_counts» .definitions) × Measured (now «second_words») («second_counts» .nodes) («second_counts» .definitions) ⌝ }
+    requires ready { ⌜ Ready (now target) (now flag) (now list) ⌝ }
     ensures { λ r. ⌜ Traversed (pairGraph (now («first_words» .entry)) (now («first_bytes» .entry)) (now («second_words» .entry)) (now («second_bytes» .entry))) (r .count) (r .length) (now (target .exit)) (now (flag .exit)) (now (list .exit)) ⌝ }
     ensures roots { λ r. ⌜ RootMarks (now («first_words» .entry)) (now («first_bytes» .entry)) (now («second_words» .entry)) (now («second_bytes» .entry)) (r .roots .«first_requirements») (r .roots .«second_requirements») (r .roots .«first_rank») (r .roots .«second_rank») ⌝ }
 {
-    let p = links::measure(first_words);
-    let q = links::measure(second_words);
     let mut prints = [0u32; 512];
     links::fingerprints(
         first_words,
         first_bytes,
-        p,
+        first_counts,
         second_words,
         second_bytes,
-        q,
+        second_counts,
         &mut prints,
     );
     let r = links::find_roots(
         first_words,
         first_bytes,
-        p,
+        first_counts,
         second_words,
         second_bytes,
-        q,
+        second_counts,
         &prints,
     );
     let mut room = [0usize; 4];
@@ -152,10 +153,10 @@ pub fn traverse(
     let t = run(
         first_words,
         first_bytes,
-        p,
+        first_counts,
         second_words,
         second_bytes,
-        q,
+        second_counts,
         &prints,
         roots,
         target,

@@ -24,18 +24,6 @@ pub struct Counts {
     pub definitions: usize,
 }
 
-pub fn measure(words: &[u64]) -> Counts
-    requires { ⌜ Formed (now words) ⌝ }
-    ensures { λ r. ⌜ Measured (now (words .entry)) (r .nodes) (r .definitions) ⌝ }
-{
-    let n = ad::count_nodes(words);
-    let d = ad::count_definitions(words);
-    Counts {
-        nodes: n,
-        definitions: d,
-    }
-}
-
 // The kind of the node x.
 fn kind_of(first_words: &[u64], second_words: &[u64], x: usize) -> u64
     requires { ⌜ (x < pairSlots) × (adWords ≤ length (now «first_words»)) × (adWords ≤ length (now «second_words»)) ⌝ }

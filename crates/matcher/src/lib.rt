@@ -26,11 +26,13 @@ pub fn match_ads(
     );
     match admitted {
         Admission::Refused(k) => Outcome::Refused(k, 0),
-        Admission::Admitted => matching::match_formed(
+        Admission::Admitted(first_counts, second_counts) => matching::match_formed(
             &first_words[..ad::WORDS],
             &first_bytes[..ad::BYTES],
+            first_counts,
             &second_words[..ad::WORDS],
             &second_bytes[..ad::BYTES],
+            second_counts,
             &mut table[..matching::VALUES],
             &mut list[..admission::ENTRIES],
             budget,

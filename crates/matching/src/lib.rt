@@ -1,8 +1,9 @@
 // The match of two stored ads.
+use links::Counts;
 ghost use mathlib.Core.Path.{_≡_};
 ghost use lib.ListN.{length, replicate};
 ghost use Rattle.links.specs.Pair.{pairSlots};
-ghost use Rattle.links.specs.Inner.Asked.{Formed};
+ghost use Rattle.links.specs.Inner.Asked.{Measured};
 ghost use Rattle.dependency.specs.Inner.Asked.{Ready};
 ghost use Rattle.matching.specs.Matching.{tableWords, Match};
 
@@ -21,23 +22,28 @@ pub enum Outcome {
 fn match_marked(
     first_words: &[u64],
     first_bytes: &[u8],
+    first_counts: Counts,
     second_words: &[u64],
     second_bytes: &[u8],
+    second_counts: Counts,
     target: &mut [usize],
     flag: &mut [usize],
     list: &mut [u64],
     table: &mut [u64],
     budget: u16,
 ) -> Outcome
-    requires ready { ⌜ Ready (now «first_words») (now «second_words») (now target) (now flag) (now list) ⌝ }
+    requires ads { ⌜ Measured (now «first_words») («first_counts» .nodes) («first_counts» .definitions) × Measured (now «second_words») («second_counts» .nodes) («second_counts» .definitions) ⌝ }
+    requires ready { ⌜ Ready (now target) (now flag) (now list) ⌝ }
     requires room { ⌜ (length (now list) ≡ pairSlots) × (now table ≡ replicate tableWords 0) ⌝ }
     ensures { λ r. ⌜ Match (now («first_words» .entry)) (now («first_bytes» .entry)) (now («second_words» .entry)) (now («second_bytes» .entry)) budget (now (table .exit)) (now (list .exit)) r ⌝ }
 {
     let t = dependency::traverse(
         first_words,
         first_bytes,
+        first_counts,
         second_words,
         second_bytes,
+        second_counts,
         target,
         flag,
         list,
@@ -69,17 +75,19 @@ fn match_marked(
     )
 }
 
-// The match of two well-formed ads in a table of 2,048 slots and a list's room of 2,048 entries, whatever they hold.
+// The match of two well-formed ads, whose counts are given, in a table of 2,048 slots and a list's room of 2,048 entries, whatever they hold.
 pub fn match_formed(
     first_words: &[u64],
     first_bytes: &[u8],
+    first_counts: Counts,
     second_words: &[u64],
     second_bytes: &[u8],
+    second_counts: Counts,
     table: &mut [u64],
     list: &mut [u64],
     budget: u16,
 ) -> Outcome
-    requires { ⌜ Formed (now «first_words») × Formed (now «second_words») × (length (now table) ≡ tableWords) × (length (now list) ≡ pairSlots) ⌝ }
+    requires { ⌜ Measured (now «first_words») («first_counts» .nodes) («first_counts» .definitions) × Measured (now «second_words») («second_counts» .nodes) («second_counts» .definitions) × (length (now table) ≡ tableWords) × (length (now list) ≡ pairSlots) ⌝ }
     ensures { λ r. ⌜ Match (now («first_words» .entry)) (now («first_bytes» .entry)) (now («second_words» .entry)) (now («second_bytes» .entry)) budget (now (table .exit)) (now (list .exit)) r ⌝ }
 {
     ad::clear_words(table);
@@ -89,8 +97,10 @@ pub fn match_formed(
     match_marked(
         first_words,
         first_bytes,
+        first_counts,
         second_words,
         second_bytes,
+        second_counts,
         &mut target,
         &mut flag,
         list,

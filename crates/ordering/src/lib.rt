@@ -1,9 +1,10 @@
 // The circular references and the evaluation order of two stored ads, whatever is lent.
 use admission::Admission;
+use links::Counts;
 ghost use mathlib.Core.Path.{_≡_};
 ghost use lib.ListN.{length, replicate};
 ghost use Rattle.links.specs.Pair.{pairSlots};
-ghost use Rattle.links.specs.Inner.Asked.{Formed};
+ghost use Rattle.links.specs.Inner.Asked.{Measured};
 ghost use Rattle.ordering.specs.Ordering.{OrdersBy, Ordered};
 
 // A refusal's number and place; or how many transitions the traversal took, and how long the list is.
@@ -27,12 +28,14 @@ fn clear(marks: &mut [usize])
 fn order_formed(
     first_words: &[u64],
     first_bytes: &[u8],
+    first_counts: Counts,
     second_words: &[u64],
     second_bytes: &[u8],
+    second_counts: Counts,
     flags: &mut [usize],
     list: &mut [u64],
 ) -> Order
-    requires { ⌜ Formed (now «first_words») × Formed (now «second_words») × (length (now flags) ≡ pairSlots) × (length (now list) ≡ pairSlots) ⌝ }
+    requires { ⌜ Measured (now «first_words») («first_counts» .nodes) («first_counts» .definitions) × Measured (now «second_words») («second_counts» .nodes) («second_counts» .definitions) × (length (now flags) ≡ pairSlots) × (length (now list) ≡ pairSlots) ⌝ }
     ensures { λ r. ⌜ OrdersBy (now («first_words» .entry)) (now («first_bytes» .entry)) (now («second_words» .entry)) (now («second_bytes» .entry)) (now (flags .exit)) (now (list .exit)) r ⌝ }
 {
     clear(flags);
@@ -41,8 +44,10 @@ fn order_formed(
     let t = dependency::traverse(
         first_words,
         first_bytes,
+        first_counts,
         second_words,
         second_bytes,
+        second_counts,
         &mut target,
         flags,
         list,
@@ -72,11 +77,13 @@ pub fn order_ads(
     );
     match admitted {
         Admission::Refused(k) => Order::Refused(k, 0),
-        Admission::Admitted => order_formed(
+        Admission::Admitted(first_counts, second_counts) => order_formed(
             &first_words[..ad::WORDS],
             &first_bytes[..ad::BYTES],
+            first_counts,
             &second_words[..ad::WORDS],
             &second_bytes[..ad::BYTES],
+            second_counts,
             &mut flags[..admission::ENTRIES],
             &mut list[..admission::ENTRIES],
         ),

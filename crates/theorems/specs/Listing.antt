@@ -17,7 +17,7 @@ use Rattle.links.specs.Laws.Counting.{nodes-few}
 use Rattle.links.specs.Laws.Numbering.{pair-size}
 use Rattle.links.specs.Laws.Soundness.{pair-sound}
 use Rattle.matching.specs.Matching.{Match, Matched, refused, matches}
-use Rattle.admission.specs.Laws.Rooms.{first-formed, second-formed}
+use Rattle.admission.specs.Laws.Wells.{formed-of}
 use Rattle.matching.specs.declared.Outcome.{Outcome}
 use Rattle.matching.specs.declared.Outcome.the-variants.{Refused, Finished, Unfinished}
 
@@ -111,7 +111,7 @@ pub matched-list : {v b w c : List ℕ} {budget : ℕ} {table list table′ list
     Within (nodeCount (take adWords v) + nodeCount (take adWords w)) budget r
 matched-list (refused e a t l) u = absurd (u _ 0 a)
 matched-list {v} {b} {w} {c} {budget} {r = r} (matches e values entries m t l) u =
-    let x = match-list (first-formed e) (second-formed e) m in
+    let x = match-list (formed-of v b (e .first-well)) (formed-of w c (e .second-well)) m in
     record {
       few-steps = x .few-steps;
       in-budget = let s = x .steps in omega arith;

@@ -19,6 +19,7 @@ use Rattle.well_formed.specs.Laws.Bounds.{bounded, read-holds}
 use Rattle.well_formed.specs.Laws.Whole.{holds-long}
 use Rattle.acceptance.specs.Acceptance.{long}
 use Rattle.well_formed.specs.Laws.Named.{bounded-named}
+use Rattle.admission.specs.Laws.Wells.{stored-of}
 use Rattle.ad.specs.Stored.{nodeCount}
 use Rattle.links.specs.Inner.Asked.{Formed}
 use Rattle.links.specs.Laws.Layout.{stored-nodes, stored-formed}
@@ -76,8 +77,7 @@ read-one x y = (x .answers ∙ sym (y .answers), x .words ∙ sym (y .words), x 
 pub read-formed : (s : List ℕ) (a : Ad) → R.read s ≡ R.accepted a → Formed (storedWords a)
 read-formed s a e =
     let h = read-holds s a e in
-    stored-formed {b = storedBytes a} {a = a}
-    (record { words = h .words; bytes-are = h .bytes; few-nodes = bounded h .within .few-nodes; few-definitions = bounded h .within .few-definitions; named = bounded-named a (bounded h) })
+    stored-formed {b = storedBytes a} {a = a} (stored-of h)
 
 -- ---- the front parts
 

@@ -37,7 +37,8 @@ use Rattle.trees.specs.Values.{adOf, Returns, Means, Same, Worths, has-n
 use Rattle.trees.specs.Laws.Stored.{stored-node}
 use Rattle.trees.specs.Laws.Graph.{counted, pair-tree}
 use Rattle.trees.specs.Laws.Parts.{Owned, owned}
-use Rattle.trees.specs.Laws.Own.{Looked, nowhere, somewhere, look, finds-defines, stored-of, node-own}
+use Rattle.admission.specs.Laws.Wells.{stored-of}
+use Rattle.trees.specs.Laws.Own.{Looked, nowhere, somewhere, look, finds-defines, node-own}
 use Rattle.trees.specs.Laws.Returning.{returns-circular, circular-returns}
 use Rattle.trees.specs.Laws.Meaning.{gives-means}
 use Rattle.trees.specs.Laws.Same.{one-meaning, one-worth}

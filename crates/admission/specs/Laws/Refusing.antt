@@ -3,8 +3,9 @@ use Prim.Native.Nat.{ℕ}
 use mathlib.Core.Path.{_≡_, refl, sym, _∙_, subst}
 use mathlib.Core.Bool.{true≢false}
 use mathlib.Core.List.{List}
+use Rattle.links.specs.declared.Counts.{Counts}
 use Rattle.admission.specs.Admission.{Refuses, no-room, first-malformed, second-malformed, Admits}
-use Rattle.admission.specs.Inner.Admitting.{Admitting}
+use Rattle.admission.specs.Inner.Admitting.{AdmitsWith, Admitting}
 use Rattle.admission.specs.declared.Admission.{Admission}
 use Rattle.admission.specs.declared.Admission.the-variants.{Refused, Admitted}
 
@@ -29,5 +30,5 @@ module _ {v b w c : List ℕ} {lent room entries : ℕ} where
   pub refusal-told : {r : Admission} {k : ℕ} → Admitting v b w c lent room entries r → r ≡ Refused k → Refuses v b w c lent room entries k
   refusal-told h e = subst (Admitting v b w c lent room entries) e h
 
-  pub admission-told : {r : Admission} → Admitting v b w c lent room entries r → r ≡ Admitted → Admits v b w c lent room entries
+  pub admission-told : {r : Admission} {p q : Counts} → Admitting v b w c lent room entries r → r ≡ Admitted p q → AdmitsWith v b w c lent room entries p q
   admission-told h e = subst (Admitting v b w c lent room entries) e h

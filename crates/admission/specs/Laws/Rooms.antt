@@ -3,6 +3,7 @@ use Prim.Native.Nat.{ℕ, _≤_}
 use mathlib.Core.Path.{_≡_, refl, sym, _∙_}
 use mathlib.Core.Bool.{Bool, false, _||_}
 use mathlib.Core.List.{List}
+use native.Mathlib.Omega.{arith}
 use lib.ListN.{length, take}
 use lib.Seq.{length-take-le}
 use lib.Dec.{ltb}
@@ -10,9 +11,9 @@ use borrow.Author.Tests.{ltb-false}
 use Rattle.links.specs.Pair.{pairSlots}
 use Rattle.text.specs.Laws.Booleans.{neither}
 use Rattle.ad.specs.Layout.{adWords, adBytesRoom}
-use Rattle.links.specs.Inner.Asked.{Formed}
-use Rattle.admission.specs.Admission.{smallPair, Admits}
-use Rattle.admission.specs.Laws.Wells.{formed-of}
+use Rattle.links.specs.declared.Counts.{Counts}
+use Rattle.admission.specs.Admission.{smallPair}
+use Rattle.admission.specs.Inner.Admitting.{AdmitsWith}
 
 pub record Rooms (v b w c : List ℕ) (lent room entries : ℕ) : Type 0 where
   pub first-words : adWords ≤ length v
@@ -42,10 +43,10 @@ rooms v b w c lent room entries e =
           entries-fit = ltb-false entries pairSlots (e₆ ∙ neither t u h₄ .1);
         }
 
--- of two ads that are admitted
-module _ {v b w c : List ℕ} {lent room entries : ℕ} (a : Admits v b w c lent room entries) where
+-- what is lent of two ads that are admitted: each front part has its size
+module _ {v b w c : List ℕ} {lent room entries : ℕ} {p q : Counts} (a : AdmitsWith v b w c lent room entries p q) where
   pub fit : Rooms v b w c lent room entries
-  fit = rooms v b w c lent room entries (a .roomy)
+  fit = rooms v b w c lent room entries (a .admits .roomy)
 
   pub first-words-front : adWords ≡ length (take adWords v)
   first-words-front = sym (length-take-le adWords v (fit .first-words))
@@ -59,8 +60,8 @@ module _ {v b w c : List ℕ} {lent room entries : ℕ} (a : Admits v b w c lent
   pub second-bytes-front : adBytesRoom ≡ length (take adBytesRoom c)
   second-bytes-front = sym (length-take-le adBytesRoom c (fit .second-bytes))
 
-  pub first-formed : Formed (take adWords v)
-  first-formed = formed-of v b (a .first-well)
+  pub values-front : (t : List ℕ) → lent ≡ length t → room ≡ length (take room t)
+  values-front t e = sym (length-take-le room t (let h = fit .values in omega arith))
 
-  pub second-formed : Formed (take adWords w)
-  second-formed = formed-of w c (a .second-well)
+  pub list-front : (l : List ℕ) → entries ≡ length l → pairSlots ≡ length (take pairSlots l)
+  list-front l e = sym (length-take-le pairSlots l (let h = fit .entries-fit in omega arith))

@@ -20,22 +20,20 @@ run-requires c κs =
     let e-find-roots = at-e-list-roots .before .before .find-roots in
     let at-e-fingerprints = at-e-list-roots .before .before .before .before .before in
     let e-fingerprints = at-e-fingerprints .fingerprints in
-    let e-measure2 = at-e-fingerprints .before .before .measure2 in
-    let e-measure = at-e-fingerprints .before .before .before .measure in
     let s = at-e-fingerprints .before .before .before .before .before .before .before .before
-    .before .before .before in (
+    .before in (
       (
-        e-measure .ensures,
-        e-measure2 .ensures,
+        s .pre .0 .0,
+        s .pre .0 .1,
         e-list-roots .ensures .0 ∙ roots-listed (e-find-roots .ensures),
         e-fingerprints .ensures,
       ),
-      (s .pre, refl),
+      (s .pre .1, refl),
     )
 
 pub traverse-spec : {M : Type 1} → statement M
 traverse-spec =
-    tie.close (tie.spec (λ c κs. search needs) (λ c κs. search needs) (λ c. search needs)
+    tie.close (tie.spec (λ c. search needs)
     (λ c κs. search needs) (λ c. search needs) (λ c κs. search needs) (λ c. search needs)
     (λ c κs. search needs) (λ c. search needs) slice-aggregate-roots (λ c. search needs)
     (λ c. search needs) run-requires (λ c. search needs) (λ c. search needs) (λ c. search needs)

@@ -8,13 +8,10 @@ use lib.Dec.{leb}
 use Rattle.graph.specs.declared.Place.{Place}
 use Rattle.graph.specs.declared.Place.the-variants.{Resolving, Starting, Searching, Closing, Between, Inside}
 use Rattle.ad.specs.Stored.{nodeCount}
-use Rattle.links.specs.Inner.Asked.{Formed}
 use Rattle.marks.specs.Inner.Memory.{marksRoom, Clear, Flagged}
 
--- 'clear marks and an empty list', for two well-formed ads; the other marks are the traversal's own
-pub record Ready (v w target flag list : List ℕ) : Type 0 where
-  pub first-formed : Formed v
-  pub second-formed : Formed w
+-- 'clear marks and an empty list'; the other marks are the traversal's own
+pub record Ready (target flag list : List ℕ) : Type 0 where
   pub target-room : marksRoom ≤ length target
   pub flag-room : marksRoom ≤ length flag
   pub list-room : marksRoom ≤ length list

@@ -1,4 +1,4 @@
--- The traversal as it is used: two stored ads and cleared memory are what it asks, and when it is over, what a node's marks lead to are
+-- The traversal as it is used: cleared memory is what it asks besides two stored ads, and when it is over, what a node's marks lead to are
 -- its needs. Assumes nothing.
 use mathlib.Core.Path.{_≡_, refl, sym, ap, _∙_, subst}
 use mathlib.Core.Bool.{Bool, true, false, cond}
@@ -10,7 +10,6 @@ use Rattle.graph.specs.Members.{numbers, raised}
 use Rattle.graph.specs.Graph.{Graph, Sound, needs}
 use Rattle.graph.specs.Transition.{named, led}
 use Rattle.graph.specs.Laws.Traversal.{marks-back}
-use Rattle.links.specs.Inner.Asked.{Formed}
 use Rattle.marks.specs.Inner.Memory.{marksRoom, Clear}
 use Rattle.dependency.specs.Traversal.{Traversed}
 use Rattle.dependency.specs.Inner.Asked.{Ready}
@@ -20,12 +19,10 @@ clear-zeros zero i = refl
 clear-zeros (suc n) zero = refl
 clear-zeros (suc n) (suc i) = clear-zeros n i
 
--- two well-formed ads and zeros are what the traversal asks
-pub ready-zeros : {v w target flag list : List ℕ} (n : ℕ) → marksRoom ≤ n → Formed v → Formed w → target ≡ replicate n 0 → flag ≡ replicate n 0 → list ≡ replicate n 0 →
-    Ready v w target flag list
-ready-zeros n h f g t e l = record {
-  first-formed = f;
-  second-formed = g;
+-- zeros are what the traversal asks
+pub ready-zeros : {target flag list : List ℕ} (n : ℕ) → marksRoom ≤ n → target ≡ replicate n 0 → flag ≡ replicate n 0 → list ≡ replicate n 0 →
+    Ready target flag list
+ready-zeros n h t e l = record {
   target-room = long t;
   flag-room = long e;
   list-room = long l;

@@ -21,7 +21,7 @@ use Rattle.graph.specs.Laws.Members.{mem-nil, mem-cons}
 use Rattle.graph.specs.Graph.{Sound}
 use Rattle.ad.specs.Stored.{leading, kindAt, operandAt, nodeCount, definitionCount, lengthAt, rootAt, operands, arity}
 use Rattle.links.specs.Pair.{StoredAd, pairGraph}
-use Rattle.links.specs.Inner.Asked.{Formed}
+use Rattle.links.specs.Inner.Asked.{Formed, Measured}
 use Rattle.links.specs.Laws.Counting.{leading-is}
 use Rattle.links.specs.Laws.Soundness.{pair-sound}
 
@@ -327,6 +327,14 @@ module _ (a : Ad) (few : nodes a ≤ maxNodes) (fewer : length a ≤ maxDefiniti
 -- a stored ad within the bounds is well formed
 pub stored-formed : {w b : List ℕ} {a : Ad} → StoredAd w b a → Formed w
 stored-formed {w} {b} {a} s = subst Formed (sym (s .words)) (stored-ad-formed a (s .few-nodes) (s .few-definitions) (s .named))
+
+-- and its counts are those of its tree
+pub stored-measured : {w b : List ℕ} {a : Ad} {n d : ℕ} → StoredAd w b a → n ≡ nodes a → d ≡ length a → Measured w n d
+stored-measured {w} {b} {a} s e i = record {
+  formed = stored-formed s;
+  nodes-are = e ∙ sym (ap nodeCount (s .words) ∙ stored-nodes a (s .few-nodes) (s .few-definitions) (s .named));
+  definitions-are = i ∙ sym (ap definitionCount (s .words) ∙ stored-definitions a (s .few-nodes) (s .few-definitions) (s .named));
+}
 
 -- two stored ads give a sound graph
 pub stored-sound : {v b w c : List ℕ} {x y : Ad} → StoredAd v b x → StoredAd w c y → Sound (pairGraph v b w c)

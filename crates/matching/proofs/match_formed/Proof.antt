@@ -14,11 +14,14 @@ match-marked-requires c κs =
     let at-e-clear-words = at-e-clear-words2 .before .before .before .before in
     let e-clear-words = at-e-clear-words .clear-words in
     let s = at-e-clear-words .before .before .before .before .before .before .before .before in (
-      ready-zeros 2048 (omega arith) (s .pre .0) (s .pre .1) refl refl
-          (e-clear-words2 .ensures ∙ ap (λ (n : ℕ). replicate n 0) (s .pre .3)),
+      (s .pre .0, s .pre .1),
       (
-        let h = e-clear-words2 .kept .0 in let k = s .pre .3 in omega arith,
-        e-clear-words .ensures ∙ ap (λ (n : ℕ). replicate n 0) (s .pre .2),
+        ready-zeros 2048 (omega arith) refl refl
+            (e-clear-words2 .ensures ∙ ap (λ (n : ℕ). replicate n 0) (s .pre .3)),
+        (
+          let h = e-clear-words2 .kept .0 in let k = s .pre .3 in omega arith,
+          e-clear-words .ensures ∙ ap (λ (n : ℕ). replicate n 0) (s .pre .2),
+        ),
       ),
     )
 

@@ -12,15 +12,15 @@ run-requires c κs =
     let at-e-traverse =
     c .before .before .before .before .before .before .before .before .before .before in
     let e-traverse = at-e-traverse .traverse in
-    let x = e-traverse .kept .1 .1 .1 .1 .0 in
-    let y = e-traverse .kept .1 .1 .1 .1 .1 .0 in
+    let x = e-traverse .kept .1 .1 .1 .1 .1 .1 .0 in
+    let y = e-traverse .kept .1 .1 .1 .1 .1 .1 .1 .0 in
     let s = at-e-traverse .before .before .before .before .before .before .before .before .before
     .before .before .before in
-    let h = s .pre .0 .target-room in
-    let k = s .pre .0 .flag-room in
+    let h = s .pre .1 .0 .target-room in
+    let k = s .pre .1 .0 .flag-room in
     at-run (now (s .args .first-words)) (now (s .args .first-bytes)) (now (s .args .second-words))
-    (now (s .args .second-bytes)) (s .pre .0 .first-formed) (s .pre .0 .second-formed)
-    (e-traverse .ensures .0) (omega arith) (omega arith) (clear-long (s .pre .1 .1))
+    (now (s .args .second-bytes)) (s .pre .0 .0 .formed) (s .pre .0 .1 .formed)
+    (e-traverse .ensures .0) (omega arith) (omega arith) (clear-long (s .pre .1 .1 .1))
 
 returns : tie.Need-returns
 returns c =
@@ -33,9 +33,9 @@ returns c =
     let s = at-e-traverse .before .before .before .before .before .before .before .before .before
     .before .before .before in
     match-of (now (s .args .first-words)) (now (s .args .first-bytes)) (now (s .args .second-words))
-    (now (s .args .second-bytes)) (s .pre .0 .first-formed) (s .pre .0 .second-formed)
-    (e-traverse .ensures .0) (s .pre .1 .1) (e-run .ensures)
-    (let h = s .pre .1 .0 in let k = e-traverse .kept .1 .1 .1 .1 .1 .1 .0 in omega arith)
+    (now (s .args .second-bytes)) (s .pre .0 .0 .formed) (s .pre .0 .1 .formed)
+    (e-traverse .ensures .0) (s .pre .1 .1 .1) (e-run .ensures)
+    (let h = s .pre .1 .1 .0 in let k = e-traverse .kept .1 .1 .1 .1 .1 .1 .1 .1 .0 in omega arith)
     (e-traverse .ensures .1) (λ h. refl) (λ h. absurd (let k = e-if1 .taken in omega arith))
 
 returns-2 : tie.Need-returns-2
@@ -50,9 +50,9 @@ returns-2 c =
     let s = at-e-traverse .before .before .before .before .before .before .before .before .before
     .before .before .before in
     match-of (now (s .args .first-words)) (now (s .args .first-bytes)) (now (s .args .second-words))
-    (now (s .args .second-bytes)) (s .pre .0 .first-formed) (s .pre .0 .second-formed)
-    (e-traverse .ensures .0) (s .pre .1 .1) (e-run .ensures)
-    (let h = s .pre .1 .0 in let k = e-traverse .kept .1 .1 .1 .1 .1 .1 .0 in omega arith)
+    (now (s .args .second-bytes)) (s .pre .0 .0 .formed) (s .pre .0 .1 .formed)
+    (e-traverse .ensures .0) (s .pre .1 .1 .1) (e-run .ensures)
+    (let h = s .pre .1 .1 .0 in let k = e-traverse .kept .1 .1 .1 .1 .1 .1 .1 .1 .0 in omega arith)
     (e-traverse .ensures .1) (λ h. absurd (let k = e-if1 .left in omega arith)) (λ h i. Finished
     (e-conclude .ensures .0 i) (e-conclude .ensures .1 .0 i) (e-conclude .ensures .1 .1 i)
     (e-run .result) (e-traverse .result .count))

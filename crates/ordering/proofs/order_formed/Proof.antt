@@ -15,10 +15,12 @@ traverse-requires c κs =
     let e-clear-words = at-e-clear-words .clear-words in
     let at-e-clear = at-e-clear-words .before .before .before .before in
     let e-clear = at-e-clear .clear in
-    let s = at-e-clear .before .before .before .before .before .before .before .before in
-    ready-zeros 2048 (omega arith) (s .pre .0) (s .pre .1) refl
-    (e-clear .ensures ∙ ap (λ (n : ℕ). replicate n 0) (s .pre .2))
-    (e-clear-words .ensures ∙ ap (λ (n : ℕ). replicate n 0) (s .pre .3))
+    let s = at-e-clear .before .before .before .before .before .before .before .before in (
+      (s .pre .0, s .pre .1),
+      ready-zeros 2048 (omega arith) refl
+          (e-clear .ensures ∙ ap (λ (n : ℕ). replicate n 0) (s .pre .2))
+          (e-clear-words .ensures ∙ ap (λ (n : ℕ). replicate n 0) (s .pre .3)),
+    )
 
 returns : tie.Need-returns
 returns c =
@@ -30,7 +32,7 @@ returns c =
     .before .before .before .before in
     orders-of (now (s .args .first-words)) (now (s .args .first-bytes))
     (now (s .args .second-words)) (now (s .args .second-bytes)) (let h = s .pre .3 in
-    let k = e-traverse .kept .1 .1 .1 .1 .1 .1 .0 in
+    let k = e-traverse .kept .1 .1 .1 .1 .1 .1 .1 .1 .0 in
     let l = e-clear-words .kept .0 in
     omega arith) (e-traverse .ensures .0)
 

@@ -7,6 +7,7 @@ use mathlib.Core.List.{List, [], _∷_, map}
 use lib.ListN.{length, length-append, length-replicate}
 use lib.Dec.{ltb}
 use borrow.Author.Tests.{lt-ltb}
+use Rattle.admission.specs.Laws.Wells.{stored-of}
 use Rattle.links.specs.Laws.Numbering.{inside-numbers, across-numbers}
 use Rattle.text.specs.Strings.{sameName}
 use Rattle.syntax.specs.Bounds.{maxNodes}
@@ -14,11 +15,10 @@ use Rattle.syntax.specs.Tree as tree
 use Rattle.syntax.specs.Tree.{undefined, Scope, other, Expr, reference, Ad, size, nodes}
 use Rattle.syntax.specs.Grammar.{defined}
 use Rattle.ad.specs.Layout.{adBytes, adBytesRoom, storedWords, storedBytes}
-use Rattle.links.specs.Pair.{linked, numbered, both, definitionAt, StoredAd}
+use Rattle.links.specs.Pair.{linked, numbered, both, definitionAt}
 use Rattle.links.specs.Laws.Soundness.{both-low, both-high}
 use Rattle.well_formed.specs.WellFormed.{Holds}
 use Rattle.well_formed.specs.Laws.Bounds.{bounded}
-use Rattle.well_formed.specs.Laws.Named.{bounded-named}
 use Rattle.values.specs.declared.Value.{Value}
 use Rattle.nodes.specs.declared.Node as kind
 use Rattle.nodes.specs.Nodes.{ruleOf}
@@ -63,10 +63,6 @@ own-leaf n s name = let q : n + 1 - 1 ≡ n = omega arith in q
 both-side : {A : Type 0} (p q : ℕ → A) (second : Bool) (i : ℕ) → i < maxNodes → both p q (numbered second i) ≡ cond second (q i) (p i)
 both-side p q true i h = both-high p q (maxNodes + i) (omega arith) ∙ ap q (let e : (maxNodes + i) - maxNodes ≡ i = omega arith in e)
 both-side p q false i h = both-low p q i h
-
--- an ad in its memory
-pub stored-of : {w b : List ℕ} {a : Ad} → Holds w b a → StoredAd w b a
-stored-of {w} {b} {a} h = record { words = h .words; bytes-are = h .bytes; few-nodes = bounded h .within .few-nodes; few-definitions = bounded h .within .few-definitions; named = bounded-named a (bounded h) }
 
 pub stored-long : (a : Ad) → length (adBytes a) ≤ adBytesRoom → length (storedBytes a) ≡ adBytesRoom
 unfolding storedBytes
