@@ -1,21 +1,5 @@
 // What the C function of a match does: it calls `match_ads` and leaves its answer in numbers (docs/LAYOUT.md).
-ghost use mathlib.Core.Path.{_≡_};
-ghost use Rattle.c_matching.specs.Matching.{outcomeNumbers, MatchReported};
-use c_results::flag;
-use matching::Outcome;
-
-// What a match answers, as seven numbers.
-fn outcome_numbers(outcome: Outcome) -> [u64; 7]
-    ensures { λ r. ⌜ r ≡ outcomeNumbers outcome ⌝ }
-{
-    match outcome {
-        Outcome::Refused(k, _) => [k as u64, 0, 0, 0, 0, 0, 0],
-        Outcome::Finished(m, i, j, s, n) => {
-            [0, 1, flag(m), i as u64, j as u64, s as u64, n as u64]
-        }
-        Outcome::Unfinished(s, n) => [0, 0, 0, 0, 0, s as u64, n as u64],
-    }
-}
+ghost use Rattle.c_matching.specs.Matching.{MatchReported};
 
 // Matches any numbers that may be two stored ads, in any lent memory.
 pub fn match_ads(
@@ -39,5 +23,5 @@ pub fn match_ads(
         list,
         budget,
     );
-    *answer = outcome_numbers(outcome);
+    *answer = c_outcomes::outcome_numbers(outcome);
 }

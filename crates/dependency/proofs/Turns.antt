@@ -24,10 +24,11 @@ use Rattle.links.specs.Laws.Soundness.{pair-sound}
 use Rattle.links.specs.Laws.Numbering.{pair-size}
 use Rattle.marks.specs.Inner.Memory.{view, marksRoom, markWords, Clear, Roomy, Grows}
 use Rattle.dependency.specs.Traversal.{Traversed}
-use Rattle.dependency.specs.Inner.Asked.{endedAt, PlaceFits, FlaggedFrom, Ready}
+use Rattle.dependency.specs.Inner.Asked.{endedAt, Ready}
+use Rattle.transitions.specs.Inner.Asked.{PlaceFits, FlaggedFrom}
 use Rattle.dependency.specs.Laws.Use.{clear-zeros}
-use Rattle.dependency.specs.Laws.Next.{slots-fit, place-fits}
-use Rattle.dependency.proofs.Steps.{nodes-few, size-is}
+use Rattle.transitions.specs.Laws.Next.{slots-fit, place-fits}
+use Rattle.transitions.proofs.Steps.{nodes-few, size-is}
 
 -- a mark within the slots is what it records
 recorded-is :

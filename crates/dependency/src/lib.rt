@@ -1,9 +1,7 @@
 // Dependencies: the traversal of two stored ads, which finds the circular references and the list.
-mod rule;
-
 use graph::Place;
 use links::Counts;
-use links::Roots;
+use lookup::Roots;
 use marks::Position;
 ghost use mathlib.Core.Path.{_≡_};
 ghost use mathlib.Core.Bool.{cond};
@@ -90,7 +88,7 @@ fn run(
                 length: s.len,
             };
         }
-        s = rule::transition(
+        s = transitions::transition(
             first_words,
             first_bytes,
             p,
@@ -128,7 +126,7 @@ pub fn traverse(
     ensures roots { λ r. ⌜ RootMarks (now («first_words» .entry)) (now («first_bytes» .entry)) (now («second_words» .entry)) (now («second_bytes» .entry)) (r .roots .«first_requirements») (r .roots .«second_requirements») (r .roots .«first_rank») (r .roots .«second_rank») ⌝ }
 {
     let mut prints = [0u32; 512];
-    links::fingerprints(
+    lookup::fingerprints(
         first_words,
         first_bytes,
         first_counts,
@@ -137,7 +135,7 @@ pub fn traverse(
         second_counts,
         &mut prints,
     );
-    let r = links::find_roots(
+    let r = lookup::find_roots(
         first_words,
         first_bytes,
         first_counts,
@@ -147,7 +145,7 @@ pub fn traverse(
         &prints,
     );
     let mut room = [0usize; 4];
-    let n = links::list_roots(r, &mut room);
+    let n = lookup::list_roots(r, &mut room);
     let roots = &room[..n];
     let mut marks = [0u16; 12288];
     let t = run(

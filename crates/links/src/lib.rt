@@ -1,18 +1,16 @@
 // The graph of two stored ads: its nodes, links and roots by their numbers.
-mod lookup;
-
 ghost use mathlib.Core.Path.{_≡_};
-ghost use mathlib.Core.Bool.{false, true, not, cond};
-ghost use mathlib.Core.List.{List, map, _++_};
+ghost use mathlib.Core.Bool.{cond};
+ghost use mathlib.Core.List.{List};
 ghost use Prim.Native.Nat.{ℕ, _+_, _-_, _≤_, _<_};
-ghost use lib.ListN.{length, getD, take};
+ghost use lib.ListN.{length, getD};
 ghost use lib.Dec.{ltb};
 ghost use Rattle.syntax.specs.Bounds.{maxNodes};
 ghost use Rattle.ad.specs.Layout.{adWords};
-ghost use Rattle.graph.specs.Transition.{led, needed, marked};
-ghost use Rattle.ad.specs.Stored.{kindAt, operandAt, nodeCount, isReference};
-ghost use Rattle.links.specs.Pair.{linked, linksFrom, both, pairGraph, pairSlots};
-ghost use Rattle.links.specs.Inner.Asked.{unmarked, Formed, Measured, Stands, RootMarks, Printed, Fingerprints};
+ghost use Rattle.graph.specs.Transition.{led, needed};
+ghost use Rattle.ad.specs.Stored.{kindAt, operandAt};
+ghost use Rattle.links.specs.Pair.{both, pairGraph, pairSlots};
+ghost use Rattle.links.specs.Inner.Asked.{Formed};
 ghost use Rattle.graph.specs.Members.{numbers, raised};
 
 // A slot for each node of two ads.
@@ -120,161 +118,4 @@ pub fn node_at(n: usize, i: usize) -> usize
         return i;
     }
     syntax::NODES + (i - n)
-}
-
-fn opposite(b: bool) -> bool
-    ensures { λ r. ⌜ r ≡ not b ⌝ }
-{
-    if b {
-        return false;
-    }
-    true
-}
-
-// What is to be recorded of node i of an ad, `second` or the first: where its name is found, if it is a reference. There are d
-// definitions here, and e in the other ad.
-fn found_from(
-    words: &[u64],
-    bytes: &[u8],
-    d: usize,
-    others: &[u64],
-    names: &[u8],
-    e: usize,
-    i: usize,
-    second: bool,
-    prints: &[u32],
-) -> usize
-    requires own { ⌜ Measured (now words) (nodeCount (now words)) d × Measured (now others) (nodeCount (now others)) e × (i < nodeCount (now words)) ⌝ }
-    requires prints { ⌜ Printed second (now words) (now bytes) (now prints) × Printed (not second) (now others) (now names) (now prints) × (512 ≤ length (now prints)) ⌝ }
-    ensures { λ r. ⌜ r ≡ cond (isReference (kindAt (now (words .entry)) i)) (marked (map (linked second) (linksFrom (now (words .entry)) (now (bytes .entry)) (now (others .entry)) (now (names .entry)) i))) 0 ⌝ }
-{
-    let kind = ad::kind(words, i);
-    if kind == 7 {
-        let name = ad::reference_name(words, bytes, i);
-        return lookup::find_name(words, bytes, d, name, second, prints);
-    }
-    if kind == 8 {
-        let name = ad::reference_name(words, bytes, i);
-        let far = opposite(second);
-        return lookup::find_name(others, names, e, name, far, prints);
-    }
-    0
-}
-
-// What is to be recorded of the node x.
-pub fn found_at(
-    first_words: &[u64],
-    first_bytes: &[u8],
-    d: usize,
-    second_words: &[u64],
-    second_bytes: &[u8],
-    e: usize,
-    x: usize,
-    prints: &[u32],
-) -> usize
-    requires ads { ⌜ Measured (now «first_words») (nodeCount (now «first_words»)) d × Measured (now «second_words») (nodeCount (now «second_words»)) e × Stands (now «first_words») (now «second_words») x ⌝ }
-    requires prints { ⌜ Fingerprints (now «first_words») (now «first_bytes») (now «second_words») (now «second_bytes») (now prints) ⌝ }
-    ensures { λ r. ⌜ r ≡ cond (pairGraph (now («first_words» .entry)) (now («first_bytes» .entry)) (now («second_words» .entry)) (now («second_bytes» .entry)) .ref x) (marked (pairGraph (now («first_words» .entry)) (now («first_bytes» .entry)) (now («second_words» .entry)) (now («second_bytes» .entry)) .links x)) 0 ⌝ }
-{
-    if x < syntax::NODES {
-        return found_from(
-            first_words,
-            first_bytes,
-            d,
-            second_words,
-            second_bytes,
-            e,
-            x,
-            false,
-            prints,
-        );
-    }
-    found_from(
-        second_words,
-        second_bytes,
-        e,
-        first_words,
-        first_bytes,
-        d,
-        x - syntax::NODES,
-        true,
-        prints,
-    )
-}
-
-// The fingerprints of the names of all definitions.
-pub fn fingerprints(
-    first_words: &[u64],
-    first_bytes: &[u8],
-    p: Counts,
-    second_words: &[u64],
-    second_bytes: &[u8],
-    q: Counts,
-    prints: &mut [u32],
-)
-    requires { ⌜ Measured (now «first_words») (p .nodes) (p .definitions) × Measured (now «second_words») (q .nodes) (q .definitions) × (512 ≤ length (now prints)) ⌝ }
-    ensures { λ _. ⌜ Fingerprints (now («first_words» .entry)) (now («first_bytes» .entry)) (now («second_words» .entry)) (now («second_bytes» .entry)) (now (prints .exit)) ⌝ }
-{
-    lookup::fill(first_words, first_bytes, p.definitions, false, prints);
-    lookup::fill(second_words, second_bytes, q.definitions, true, prints);
-}
-
-// The roots of the first ad's Requirements, the second's, the first's Rank, the second's: each one more than its number, 0 for none.
-pub struct Roots {
-    pub first_requirements: usize,
-    pub second_requirements: usize,
-    pub first_rank: usize,
-    pub second_rank: usize,
-}
-
-pub fn find_roots(
-    first_words: &[u64],
-    first_bytes: &[u8],
-    p: Counts,
-    second_words: &[u64],
-    second_bytes: &[u8],
-    q: Counts,
-    prints: &[u32],
-) -> Roots
-    requires ads { ⌜ Measured (now «first_words») (p .nodes) (p .definitions) × Measured (now «second_words») (q .nodes) (q .definitions) ⌝ }
-    requires prints { ⌜ Fingerprints (now «first_words») (now «first_bytes») (now «second_words») (now «second_bytes») (now prints) ⌝ }
-    ensures { λ r. ⌜ RootMarks (now («first_words» .entry)) (now («first_bytes» .entry)) (now («second_words» .entry)) (now («second_bytes» .entry)) (r .«first_requirements») (r .«second_requirements») (r .«first_rank») (r .«second_rank») ⌝ }
-{
-    let d = p.definitions;
-    let e = q.definitions;
-    let i = lookup::find_name(first_words, first_bytes, d, b"Requirements", false, prints);
-    let j = lookup::find_name(second_words, second_bytes, e, b"Requirements", true, prints);
-    let k = lookup::find_name(first_words, first_bytes, d, b"Rank", false, prints);
-    let l = lookup::find_name(second_words, second_bytes, e, b"Rank", true, prints);
-    Roots {
-        first_requirements: i,
-        second_requirements: j,
-        first_rank: k,
-        second_rank: l,
-    }
-}
-
-// The root that a mark names, if it names one, becomes the n-th of the roots.
-fn add_root(mark: usize, roots: &mut [usize], n: usize) -> usize
-    requires { ⌜ n < length (now roots) ⌝ }
-    ensures { λ r. ⌜ take r (now (roots .exit)) ≡ take n (now (roots .entry)) ++ unmarked mark ⌝ }
-    ensures few { λ r. ⌜ r ≤ n + 1 ⌝ }
-{
-    if mark == 0 {
-        return n;
-    }
-    roots[n] = mark - 1;
-    n + 1
-}
-
-// Those that exist, in order.
-pub fn list_roots(r: Roots, roots: &mut [usize]) -> usize
-    requires { ⌜ 4 ≤ length (now roots) ⌝ }
-    ensures { λ n. ⌜ take n (now (roots .exit)) ≡ unmarked (r .«first_requirements») ++ (unmarked (r .«second_requirements») ++ (unmarked (r .«first_rank») ++ unmarked (r .«second_rank»))) ⌝ }
-    ensures few { λ n. ⌜ n ≤ 4 ⌝ }
-{
-    let i = add_root(r.first_requirements, roots, 0);
-    let j = add_root(r.second_requirements, roots, i);
-    let k = add_root(r.first_rank, roots, j);
-    add_root(r.second_rank, roots, k)
 }

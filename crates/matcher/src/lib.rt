@@ -26,7 +26,7 @@ pub fn match_ads(
     );
     match admitted {
         Admission::Refused(k) => Outcome::Refused(k, 0),
-        Admission::Admitted(first_counts, second_counts) => matching::match_formed(
+        Admission::Admitted(first_counts, second_counts) => match_memory::match_formed(
             &first_words[..ad::WORDS],
             &first_bytes[..ad::BYTES],
             first_counts,

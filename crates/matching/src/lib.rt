@@ -19,7 +19,7 @@ pub enum Outcome {
 }
 
 // The match of two well-formed ads, from clear targets and flags, an empty list and a blank table.
-fn match_marked(
+pub fn match_marked(
     first_words: &[u64],
     first_bytes: &[u8],
     first_counts: Counts,
@@ -48,7 +48,7 @@ fn match_marked(
         flag,
         list,
     );
-    let steps = evaluation::run(
+    let steps = running::run(
         first_words,
         first_bytes,
         second_words,
@@ -72,39 +72,5 @@ fn match_marked(
         answer.second_rank,
         steps,
         t.count,
-    )
-}
-
-// The match of two well-formed ads, whose counts are given, in a table of 2,048 slots and a list's room of 2,048 entries, whatever they hold.
-pub fn match_formed(
-    first_words: &[u64],
-    first_bytes: &[u8],
-    first_counts: Counts,
-    second_words: &[u64],
-    second_bytes: &[u8],
-    second_counts: Counts,
-    table: &mut [u64],
-    list: &mut [u64],
-    budget: u16,
-) -> Outcome
-    requires { ⌜ Measured (now «first_words») («first_counts» .nodes) («first_counts» .definitions) × Measured (now «second_words») («second_counts» .nodes) («second_counts» .definitions) × (length (now table) ≡ tableWords) × (length (now list) ≡ pairSlots) ⌝ }
-    ensures { λ r. ⌜ Match (now («first_words» .entry)) (now («first_bytes» .entry)) (now («second_words» .entry)) (now («second_bytes» .entry)) budget (now (table .exit)) (now (list .exit)) r ⌝ }
-{
-    ad::clear_words(table);
-    ad::clear_words(list);
-    let mut target = [0usize; links::SLOTS];
-    let mut flag = [0usize; links::SLOTS];
-    match_marked(
-        first_words,
-        first_bytes,
-        first_counts,
-        second_words,
-        second_bytes,
-        second_counts,
-        &mut target,
-        &mut flag,
-        list,
-        table,
-        budget,
     )
 }

@@ -6,7 +6,7 @@ ghost use lib.Dec.{ltb};
 ghost use Rattle.integers.specs.Integers.{width};
 ghost use Rattle.verdict.specs.Verdict.{isTrue, rankOf};
 ghost use Rattle.verdict.specs.Inner.Worth.{worthAt};
-use links::Roots;
+use lookup::Roots;
 use values::Value;
 
 // Whether both Requirements are true, and both ranks.
