@@ -25,7 +25,7 @@ use Rattle.matching.specs.declared.Outcome.{Outcome}
 use Rattle.matching.specs.declared.Outcome.the-variants.{Refused, Finished, Unfinished}
 use Rattle.theorems.specs.Texts.{TextsMatch, TextsAnswer, texts-match, of-trees}
 use Rattle.theorems.specs.Existing.{TheAnswer, answerAt}
-use Rattle.theorems.specs.Reading.{read-formed}
+use Rattle.text_theorems.specs.Reading.{read-formed}
 use Rattle.theorems.specs.Laws.Budgets.{match-budget}
 
 -- the answers of a match and of that with the two ads exchanged: refused alike, or `Exchanged`, that is finished with the verdict kept

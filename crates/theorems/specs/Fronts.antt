@@ -21,7 +21,7 @@ use Rattle.matching.specs.Matching.{Matched, refused, matches, small, tableWord
 use Rattle.admission.specs.Admission.{Well, Refuses, no-room, first-malformed, second-malformed, Admits}
 use Rattle.matching.specs.declared.Outcome.{Outcome}
 use Rattle.theorems.specs.Texts.{match-cast}
-use Rattle.theorems.specs.Printing.{ReadBack, print-then-read}
+use Rattle.text_theorems.specs.Printing.{ReadBack, print-then-read}
 
 -- the room of an ad holds the same: 'Lent memory for an ad has room for 1,024 nodes, 256 definitions and 16,384 bytes of names and strings'
 pub record SameFront (w b w₁ b₁ : List ℕ) : Type 0 where

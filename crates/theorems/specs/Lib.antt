@@ -1,9 +1,7 @@
 pub mod Listing
 pub mod Existing
-pub mod Reading
 pub mod Texts
 pub mod Exchanging
-pub mod Printing
 pub mod Answering
 pub mod Continuing
 pub mod Fronts

@@ -87,12 +87,12 @@ use Rattle.trees.specs.Links.{treeGraph}
 use Rattle.trees.specs.Values.{adOf, Returns, Means, Same, Worths, Part, FromLiteral}
 use Rattle.trees.specs.Theorems as trees
 use Rattle.theorems.specs.Listing.{stepsOf, countOf}
-use Rattle.theorems.specs.Reading as readings
+use Rattle.text_theorems.specs.Reading as readings
 use Rattle.theorems.specs.Texts as texts
 use Rattle.theorems.specs.Texts.{AllShow, worked-shown, fault-shown}
 use Rattle.theorems.specs.Exchanging as exchanging
 use Rattle.theorems.specs.Exchanging.{Turns, short}
-use Rattle.theorems.specs.Printing as printing
+use Rattle.text_theorems.specs.Printing as printing
 use Rattle.theorems.specs.Answering as answering
 use Rattle.theorems.specs.Continuing as continuing
 use Rattle.theorems.specs.Fronts as fronts

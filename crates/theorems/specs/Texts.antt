@@ -22,7 +22,7 @@ use Rattle.worked.specs.Table.{Row, Comes, Holds, AllHold, table, fault}
 use Rattle.worked.specs.Examples.{worked, fault-unmatched}
 use Rattle.theorems.specs.Listing.{Within, matched-list}
 use Rattle.theorems.specs.Existing.{answerAt, answer-exists}
-use Rattle.theorems.specs.Reading.{ReadAs, read-answered, accepted-tree, read-formed, front-words, front-bytes, front-nodes}
+use Rattle.text_theorems.specs.Reading.{ReadAs, read-answered, accepted-tree, read-formed, front-words, front-bytes, front-nodes}
 
 -- a match of the trees a and e, in memory: table′ and list′ are what is left of table and list. 'Memory lent beyond these sizes is never
 -- changed.'

@@ -52,7 +52,7 @@ use Rattle.trees.specs.Links.{treeGraph}
 use Rattle.trees.specs.Values.{adOf, Means, Worths, Part}
 use Rattle.trees.specs.Theorems.{graph-is, list-is, entry-is, answer-is}
 use Rattle.theorems.specs.Listing.{stepsOf, countOf, match-list}
-use Rattle.theorems.specs.Reading.{ReadAs, accepted-tree, read-formed, tree-holds, front-words, front-bytes, front-nodes}
+use Rattle.text_theorems.specs.Reading.{ReadAs, accepted-tree, read-formed, tree-holds, front-words, front-bytes, front-nodes}
 use Rattle.theorems.specs.Texts.{TreesMatch, trees-match}
 use Rattle.theorems.specs.Exchanging.{covers}
 

@@ -23,7 +23,7 @@ use Rattle.printer.specs.declared.Printed.the-variants.{Text, Refused}
 use Rattle.ad_reader.specs.declared.Answer.{Answer}
 use Rattle.ad_reader.specs.declared.Answer.the-variants.{Accepted}
 use Rattle.reader.specs.Content.{Answered}
-use Rattle.theorems.specs.Reading.{read-answered}
+use Rattle.text_theorems.specs.Reading.{read-answered}
 
 -- what reading a printed text back leaves: the ad that was printed, of whose memory w and b only the room's front part counts, in front
 -- of what was there ('Memory lent beyond these sizes is never changed.')

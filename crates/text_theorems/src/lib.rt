@@ -1,0 +1,1 @@
+// What is proved of reading and printing from their contracts: in specs/.
