@@ -11,7 +11,7 @@ use Rattle.syntax.specs.Token.{Tokens, next, end, bad}
 use Rattle.syntax.specs.Reader as R
 use Rattle.syntax.specs.Reader.{misfit, endA, limits, count, enough, definitionsAt, behindAt, adAt, parse}
 use Rattle.syntax.specs.declared.Symbol.the-variants.{OpenBracket, CloseBracket, Semicolon}
-use Rattle.lexer.specs.Inner.Meaning.{tokensAt}
+use Rattle.tokens.specs.Inner.Meaning.{tokensAt}
 use Rattle.lookahead.specs.Inner.Ask.{NotToken, NotWord, Misfit, Stands}
 use Rattle.ad.specs.Layout.{adNodes, adDefinitions, adBytes}
 use Rattle.leaves.specs.Inner.Marks.{Mark, mark, Memory, left}

@@ -1,9 +1,9 @@
 // Reading: brackets and the definitions between them, up to the end of the text.
 use expressions::Read;
-use lexer::Token;
 use lookahead::SymbolAt;
 use lookahead::WordAt;
 use syntax::Symbol;
+use tokens::Token;
 ghost use Prim.Native.Nat.{_+_, _≤_};
 ghost use lib.ListN.{length};
 ghost use Rattle.ad.specs.Layout.{adWords};

@@ -15,7 +15,7 @@ use Rattle.syntax.specs.Grammar.{defined}
 use Rattle.syntax.specs.Reader as R
 use Rattle.syntax.specs.Reader.{ok, afterA, admit, limits, count, enough, conditionalAt}
 use Rattle.syntax.specs.declared.Symbol.the-variants.{Assign}
-use Rattle.lexer.specs.Inner.Meaning.{tokensAt}
+use Rattle.tokens.specs.Inner.Meaning.{tokensAt}
 use Rattle.lookahead.specs.Inner.Ask.{NotToken, Misfit, Stands}
 use Rattle.ad.specs.Layout.{exprNodes, exprBytes, adBytes}
 use Rattle.ad.specs.Inner.Names.{definedIn}

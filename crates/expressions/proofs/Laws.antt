@@ -14,7 +14,7 @@ use Rattle.syntax.specs.declared.Binary.{Binary}
 use Rattle.syntax.specs.declared.Unary.{Unary}
 use Rattle.syntax.specs.declared.Unary.the-variants.{Not, Plus, Minus}
 use Rattle.syntax.specs.declared.Symbol.the-variants.{Question, Colon, CloseParenthesis}
-use Rattle.lexer.specs.Inner.Meaning.{tokensAt}
+use Rattle.tokens.specs.Inner.Meaning.{tokensAt}
 use Rattle.lookahead.specs.Inner.Ask.{NotToken, NotBinary, Misfit, Stands}
 use Rattle.ad.specs.Layout.{unaryKind, binaryKind, node}
 use Rattle.leaves.specs.Inner.Marks.{Mark, Memory, written, left, LeafOk}

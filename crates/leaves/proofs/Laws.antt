@@ -16,9 +16,9 @@ use Rattle.syntax.specs.Laws.Codes.{code-same, symbol-coded, operator-low}
 use Rattle.syntax.specs.declared.Binary.{Binary}
 use Rattle.syntax.specs.declared.Symbol.{Symbol}
 use Rattle.syntax.specs.declared.Symbol.the-variants.{OpenParenthesis, Point, Other}
-use Rattle.lexer.specs.Inner.Meaning.{tokensAt, literalOf, bytesOf, stringAt}
-use Rattle.lexer.specs.declared.Constant.{Constant}
-use Rattle.lexer.specs.declared.Constant.the-variants as C
+use Rattle.tokens.specs.Inner.Meaning.{tokensAt, literalOf, bytesOf, stringAt}
+use Rattle.tokens.specs.declared.Constant.{Constant}
+use Rattle.tokens.specs.declared.Constant.the-variants as C
 use Rattle.lookahead.specs.Inner.Ask.{Stands, NotToken, NotWord, Misfit}
 use Rattle.ad.specs.Layout.{node, literalNode, literalBytes, scopeKind, exprNodes, exprBytes}
 use Rattle.leaves.specs.Inner.Marks.{Mark, mark, Memory, memory, left, Inside, StringFrom, ConstantLeaf, TextLeaf, OtherLeaf, LeafOk, LeafWithin}

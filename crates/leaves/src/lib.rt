@@ -1,17 +1,17 @@
 // Literals and references: read at a place of a text and stored.
-use lexer::Constant;
 use lexer::StringStep;
-use lexer::Token;
 use lookahead::SymbolAt;
 use lookahead::WordAt;
 use syntax::Symbol;
+use tokens::Constant;
+use tokens::Token;
 ghost use mathlib.Core.Path.{_≡_};
 ghost use Prim.Native.Nat.{_+_, _*_, _-_, _≤_, _<_};
 ghost use lib.ListN.{length, drop};
 ghost use lib.Seq.{sets, slice};
 ghost use Rattle.syntax.specs.Bounds.{maxNodes};
 ghost use Rattle.syntax.specs.Token.{bodyOf};
-ghost use Rattle.lexer.specs.Inner.Meaning.{literalOf, bytesOf};
+ghost use Rattle.tokens.specs.Inner.Meaning.{literalOf, bytesOf};
 ghost use Rattle.ad.specs.Layout.{literalNode, nodeWords};
 ghost use Rattle.leaves.specs.Inner.Marks.{mark, memory, Room, StringFrom, StringRoom, NameRoom, ConstantLeaf, TextLeaf, OtherLeaf, LeafOk, LeafWithin};
 

@@ -15,9 +15,10 @@ use Rattle.syntax.specs.declared.Unary.{Unary}
 use Rattle.syntax.specs.declared.Unary.the-variants.{Not, Plus, Minus}
 use Rattle.syntax.specs.declared.Symbol.{Symbol}
 use Rattle.syntax.specs.Tree.{string}
-use Rattle.lexer.specs.Inner.Meaning.{tokensAt, literalOf, stringAt, Scanned}
-use Rattle.lexer.specs.declared.Token as K
-use Rattle.lexer.specs.declared.Token.the-variants as KV
+use Rattle.tokens.specs.Inner.Meaning.{tokensAt, literalOf, stringAt}
+use Rattle.lexer.specs.Inner.Meaning.{Scanned}
+use Rattle.tokens.specs.declared.Token as K
+use Rattle.tokens.specs.declared.Token.the-variants as KV
 use Rattle.lookahead.specs.Inner.Ask.{NotToken, NotWord, Misfit, SymbolIs, WordIs, BinaryIs, UnaryIs}
 use Rattle.lookahead.specs.declared.SymbolAt.the-variants as S
 use Rattle.lookahead.specs.declared.WordAt.the-variants as W

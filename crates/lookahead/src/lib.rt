@@ -1,8 +1,8 @@
 // What the readers ask of the token at a place.
-use lexer::Token;
 use syntax::Binary;
 use syntax::Symbol;
 use syntax::Unary;
+use tokens::Token;
 ghost use mathlib.Core.Path.{_≡_};
 ghost use Prim.Native.Nat.{_≤_};
 ghost use lib.ListN.{length};

@@ -7,7 +7,7 @@ use Rattle.syntax.specs.Tree.{Ad, nodes}
 use Rattle.syntax.specs.Token.{end}
 use Rattle.syntax.specs.Reader as R
 use Rattle.syntax.specs.Reader.{limits, endA, definitionsAt, behindAt}
-use Rattle.lexer.specs.Inner.Meaning.{tokensAt}
+use Rattle.tokens.specs.Inner.Meaning.{tokensAt}
 use Rattle.ad.specs.Layout.{adBytes}
 use Rattle.leaves.specs.Inner.Marks.{Mark, Memory, left}
 use Rattle.ad_reader.specs.declared.Answer.{Answer}

@@ -9,7 +9,7 @@ use Rattle.syntax.specs.Token.{Tokens, symbol}
 use Rattle.syntax.specs.Reader as R
 use Rattle.syntax.specs.Reader.{limits, conditionalAt, afterA, wantA, admit, enough}
 use Rattle.syntax.specs.declared.Symbol.the-variants.{Assign}
-use Rattle.lexer.specs.Inner.Meaning.{tokensAt}
+use Rattle.tokens.specs.Inner.Meaning.{tokensAt}
 use Rattle.ad.specs.Layout.{adNodes, adDefinitions, adBytes}
 use Rattle.leaves.specs.Inner.Marks.{Mark, mark, Memory, memory, left}
 use Rattle.expressions.specs.declared.Read.{Read}

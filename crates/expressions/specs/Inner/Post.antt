@@ -5,7 +5,7 @@ use mathlib.Core.Path.{_≡_}
 use mathlib.Core.List.{List}
 use Rattle.syntax.specs.Tree.{Expr}
 use Rattle.syntax.specs.Reader.{Parsed, ok, refused, limits, conditionalAt, armsAt, binaryAt, restAt, unaryAt, primaryAt}
-use Rattle.lexer.specs.Inner.Meaning.{tokensAt}
+use Rattle.tokens.specs.Inner.Meaning.{tokensAt}
 use Rattle.leaves.specs.Inner.Marks.{Mark, mark, past, Memory, written, left, Inside}
 use Rattle.expressions.specs.declared.Read.{Read}
 use Rattle.expressions.specs.declared.Read.the-variants.{Done, Refused}

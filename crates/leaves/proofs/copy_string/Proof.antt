@@ -5,7 +5,7 @@ use Prim.Native.Nat.{_+_, _-_, _≤_}
 use lib.ListN.{length, drop, length-set}
 use lib.Seq.{sets}
 use Rattle.syntax.specs.Token.{bodyOf}
-use Rattle.lexer.specs.Inner.Meaning.{bytesOf}
+use Rattle.tokens.specs.Inner.Meaning.{bytesOf}
 use Rattle.leaves.specs.Inner.Marks.{StringFrom}
 use Rattle.leaves.proofs.Laws.{step-next, step-closed, step-broken, step-none, store-byte, shorter}
 use Rattle.leaves.proofs.copy_string.Statement.{statement}

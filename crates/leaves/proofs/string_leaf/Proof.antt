@@ -1,7 +1,7 @@
 use native.Mathlib.Omega.{arith}
 use mathlib.Core.Path.{refl, sym, ap}
 use Prim.Native.Nat.{_+_}
-use Rattle.lexer.specs.Inner.Meaning.{stringAt}
+use Rattle.tokens.specs.Inner.Meaning.{stringAt}
 use Rattle.leaves.proofs.Laws.{text-stored, string-size}
 use borrow.Author.Needs.{needs}
 use Rattle.leaves.proofs.string_leaf.Statement.{statement}

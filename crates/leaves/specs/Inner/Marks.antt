@@ -8,8 +8,8 @@ use Rattle.syntax.specs.Tree.{Expr, reference, other, size}
 use Rattle.syntax.specs.Token.{Tokens, symbol, closed, bodyOf}
 use Rattle.syntax.specs.Reader.{Parsed, ok, refused, after, want, onWord, misfit, level, room, limits, count, conditionalAt, primaryAt}
 use Rattle.syntax.specs.declared.Symbol.the-variants.{CloseParenthesis, Point}
-use Rattle.lexer.specs.Inner.Meaning.{tokensAt, literalOf}
-use Rattle.lexer.specs.declared.Constant.{Constant}
+use Rattle.tokens.specs.Inner.Meaning.{tokensAt, literalOf}
+use Rattle.tokens.specs.declared.Constant.{Constant}
 use Rattle.ad.specs.Layout.{node, literalNode, exprNodes, exprBytes}
 use Rattle.leaves.specs.declared.Leaf.{Leaf}
 use Rattle.leaves.specs.declared.Leaf.the-variants.{Done, Refused, Open}

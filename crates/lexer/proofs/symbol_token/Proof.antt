@@ -1,6 +1,6 @@
 use native.Mathlib.Omega.{arith}
 use mathlib.Core.Path.{sym, _∙_, ap}
-use Rattle.lexer.specs.Inner.Meaning.{signFront}
+use Rattle.signs.specs.Inner.Meaning.{signFront}
 use Rattle.lexer.proofs.Laws.{symbol-placed, symbol-bad}
 use borrow.Author.Needs.{needs}
 use Rattle.lexer.proofs.symbol_token.Statement.{statement}

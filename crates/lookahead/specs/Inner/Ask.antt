@@ -10,7 +10,7 @@ use Rattle.syntax.specs.Grammar.{bindsOf, unaryToken}
 use Rattle.syntax.specs.Reader.{isToken}
 use Rattle.syntax.specs.declared.Unary.{Unary}
 use Rattle.syntax.specs.declared.Symbol.{Symbol}
-use Rattle.lexer.specs.Inner.Meaning.{tokensAt}
+use Rattle.tokens.specs.Inner.Meaning.{tokensAt}
 use Rattle.lookahead.specs.declared.SymbolAt.{SymbolAt}
 use Rattle.lookahead.specs.declared.SymbolAt.the-variants as S
 use Rattle.lookahead.specs.declared.WordAt.{WordAt}
