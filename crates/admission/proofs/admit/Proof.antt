@@ -14,8 +14,9 @@ returns-2 c =
     let left = c .before .before .before in
     let small = left .before in
     let args = small .before .before .before .before .before .args in
-    first-malformed (sym (small .too-small .ensures) ∙ left .if1 .left)
-    (malformed (now (args .first-words)) (now (args .first-bytes)) (c .before .before .check .ensures) (c .enum-told .given .1))
+    first-malformed (sym (small .too-small .ensures) ∙ left .if1 .left) (malformed
+    (now (args .first-words)) (now (args .first-bytes)) (c .before .before .check .ensures)
+    (c .enum-told .given .1))
 
 returns-3 : tie.Need-returns-3
 returns-3 c =
@@ -24,9 +25,10 @@ returns-3 c =
     let left = checked .before in
     let small = left .before in
     let args = small .before .before .before .before .before .args in
-    second-malformed (sym (small .too-small .ensures) ∙ left .if1 .left)
-    (well-measured (now (args .first-words)) (now (args .first-bytes)) (checked .check .ensures) (known .first .given .1) .0)
-    (malformed (now (args .second-words)) (now (args .second-bytes)) (c .before .before .check2 .ensures) (c .enum-told2 .given .1))
+    second-malformed (sym (small .too-small .ensures) ∙ left .if1 .left) (well-measured
+    (now (args .first-words)) (now (args .first-bytes)) (checked .check .ensures)
+    (known .first .given .1) .0) (malformed (now (args .second-words)) (now (args .second-bytes))
+    (c .before .before .check2 .ensures) (c .enum-told2 .given .1))
 
 returns-4 : tie.Need-returns-4
 returns-4 c =
@@ -35,12 +37,16 @@ returns-4 c =
     let left = checked .before in
     let small = left .before in
     let args = small .before .before .before .before .before .args in
-    let first =
-    well-measured (now (args .first-words)) (now (args .first-bytes)) (checked .check .ensures) (known .first .given .1) in
-    let second =
-    well-measured (now (args .second-words)) (now (args .second-bytes)) (c .before .before .before .check2 .ensures) (c .before .second .given .1) in
+    let first = well-measured (now (args .first-words)) (now (args .first-bytes))
+    (checked .check .ensures) (known .first .given .1) in
+    let second = well-measured (now (args .second-words)) (now (args .second-bytes))
+    (c .before .before .before .check2 .ensures) (c .before .second .given .1) in
     record {
-      admits = record { roomy = sym (small .too-small .ensures) ∙ left .if1 .left; first-well = first .0; second-well = second .0 };
+      admits = record {
+        roomy = sym (small .too-small .ensures) ∙ left .if1 .left;
+        first-well = first .0;
+        second-well = second .0;
+      };
       first-measured = first .1;
       second-measured = second .1;
     }

@@ -6,7 +6,8 @@ use Rattle.c_operators.proofs.unary_named.Tie as tie
 returns : tie.Need-returns
 returns c =
     let test = c .before .before .arity in
-    one-named (c .before .before .before .args .kind) (test .ensures) (c .before .if1 .taken) (c .unary-of .ensures)
+    one-named (c .before .before .before .args .kind) (test .ensures) (c .before .if1 .taken)
+    (c .unary-of .ensures)
 
 returns-2 : tie.Need-returns-2
 returns-2 c = no-one (c .before .before .args .kind) (c .before .arity .ensures) (c .if1 .left)

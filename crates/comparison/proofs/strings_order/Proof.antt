@@ -21,7 +21,8 @@ returns-2 c =
     let a = c .before .before .before .before .before .args in
     rw (c .before .before .if1 .left) (c .order-with2 .ensures
     ∙ ap (λ (l : List ℕ). stringOrder l
-    (bytesAt (now (a .first)) (now (a .second)) (a .s) (a .o) (a .n))) (c .before .cut2 .ensures .0))
+    (bytesAt (now (a .first)) (now (a .second)) (a .s) (a .o) (a .n)))
+    (c .before .cut2 .ensures .0))
 
 pub strings-order-spec : {M : Type 1} → statement M
 strings-order-spec = tie.close (tie.spec

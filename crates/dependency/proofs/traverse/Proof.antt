@@ -20,8 +20,8 @@ run-requires c κs =
     let e-find-roots = at-e-list-roots .before .before .find-roots in
     let at-e-fingerprints = at-e-list-roots .before .before .before .before .before in
     let e-fingerprints = at-e-fingerprints .fingerprints in
-    let s = at-e-fingerprints .before .before .before .before .before .before .before .before
-    .before in (
+    let s =
+    at-e-fingerprints .before .before .before .before .before .before .before .before .before in (
       (
         s .pre .0 .0,
         s .pre .0 .1,

@@ -9,8 +9,8 @@ use Rattle.matcher.proofs.match_ads.Tie as tie
 match-formed-requires : tie.Need-match-formed-requires
 match-formed-requires c κs =
     let d = c .before .before .before .before .before .before .before in
-    let a = admission-told (d .before .before .admit .ensures) (d .admitted2 .given .1) in
-    let args = d .before .before .before .before .before .before .before .before .before .args in (
+    let args = d .before .before .before .before .before .before .before .before .before .args in
+    let a = admission-told (d .before .before .admit .ensures) (d .admitted2 .given .1) in (
       a .first-measured,
       a .second-measured,
       sym (values-front a (args .table .now) refl),
@@ -23,9 +23,10 @@ returns c =
 
 returns-2 : tie.Need-returns-2
 returns-2 c =
-    let d = c .before .before .before .before .before .before .before .before .before .before .before .before in
-    matches (admission-told (d .before .before .admit .ensures) (d .admitted2 .given .1) .admits) _ _
-    (c .before .before .before .before .match-formed .ensures) refl refl
+    let d = c .before .before .before .before .before .before .before .before .before .before
+    .before .before in
+    matches (admission-told (d .before .before .admit .ensures) (d .admitted2 .given .1) .admits) _
+    _ (c .before .before .before .before .match-formed .ensures) refl refl
 
 pub match-ads-spec : {M : Type 1} → statement M
 match-ads-spec =

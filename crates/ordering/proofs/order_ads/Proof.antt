@@ -9,8 +9,8 @@ use Rattle.ordering.proofs.order_ads.Tie as tie
 order-formed-requires : tie.Need-order-formed-requires
 order-formed-requires c κs =
     let d = c .before .before .before .before .before .before .before in
-    let a = admission-told (d .before .before .admit .ensures) (d .admitted2 .given .1) in
-    let args = d .before .before .before .before .before .before .before .before .before .args in (
+    let args = d .before .before .before .before .before .before .before .before .before .args in
+    let a = admission-told (d .before .before .admit .ensures) (d .admitted2 .given .1) in (
       a .first-measured,
       a .second-measured,
       sym (values-front a (args .flags .now) refl),
@@ -23,7 +23,8 @@ returns c =
 
 returns-2 : tie.Need-returns-2
 returns-2 c =
-    let d = c .before .before .before .before .before .before .before .before .before .before .before .before in
+    let d = c .before .before .before .before .before .before .before .before .before .before
+    .before .before in
     orders (admission-told (d .before .before .admit .ensures) (d .admitted2 .given .1) .admits) _ _
     (c .before .before .before .before .order-formed .ensures) refl refl
 
