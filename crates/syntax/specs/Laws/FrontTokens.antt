@@ -135,7 +135,7 @@ unfolding frontOf
 front-short class [] = omega arith
 front-short class (b ∷ l) = on-pick (λ (x : List ℕ). length x ≤ suc (length l)) (class b) _ _ (λ _. let h = front-short class l in omega arith) (λ _. omega arith)
 
-front-every : (class : ℕ → Bool) (l : List ℕ) → every class (frontOf class l) ≡ true
+pub front-every : (class : ℕ → Bool) (l : List ℕ) → every class (frontOf class l) ≡ true
 unfolding frontOf every
 front-every class [] = refl
 front-every class (b ∷ l) = on-pick (λ (x : List ℕ). every class x ≡ true) (class b) _ _ (λ h. rw h (front-every class l)) (λ _. refl)
@@ -195,8 +195,8 @@ value-small (b ∷ ds) v n h h′ =
     let i : n * 10 * 10 ^ length ds ≡ n * 10 ^ suc (length ds) = mul-assoc n 10 (10 ^ length ds) ∙ ap (λ (k : ℕ). n * k) (sym (pow-succ' 10 (length ds))) in
     rw i at (value-small ds (v * 10 + (b - code "0")) (n * 10) (x .1) (omega (arith, digit-small b (x .0))))
 
--- 'at most 15 digits in all'
-real-small : (xs : List ℕ) → every isDigit xs ≡ true → length xs ≤ realDigits → valueOf xs < 10 ^ realDigits
+-- the digits of a Real are a number below the bound
+pub real-small : (xs : List ℕ) → every isDigit xs ≡ true → length xs ≤ realDigits → valueOf xs < 10 ^ realDigits
 real-small xs h h′ =
     let b = value-small xs 0 1 h (omega arith) in
     let p : 10 ^ length xs ≤ 10 ^ realDigits = pow-le-pow-right (omega arith) h′ in
@@ -220,7 +220,7 @@ real-fits n ds fs h h′ l l′ within =
     let value = real-small (ds ++ fs) (every-append isDigit ds fs h h′) (omega (arith, length-append ds fs)) in
     record { written = real-is (valueOf (ds ++ fs)) (length fs) value l′ (omega arith); carries = omega arith; taken = omega arith; within = within })
 
-fraction-every : (l : List ℕ) → every isDigit (fractionOf l) ≡ true
+pub fraction-every : (l : List ℕ) → every isDigit (fractionOf l) ≡ true
 unfolding fractionOf every
 fraction-every [] = refl
 fraction-every (b ∷ l) = on-pick (λ (x : List ℕ). every isDigit x ≡ true) (eqb b (code ".")) _ _ (λ _. front-every isDigit l) (λ _. refl)
