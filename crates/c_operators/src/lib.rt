@@ -1,6 +1,6 @@
-// What the C functions of the operators of one and two operands do, by packed slots (`crates/slots`). An operator is named by the kind of its node; where a
-// number is no operator's, or an operand's slot is blank, the result is a blank slot. Missing words of `operands` read as 0, and of
-// `result` only slot 0 is written, as far as it is there.
+// What the C functions of the operators of one and two operands do, by packed slots (`crates/slots`). An operator is named by the kind
+// of its node; where a number is no operator's, or an operand's slot is blank, the result is a blank slot. Missing words of `operands`
+// read as 0, and of `result` only slot 0 is written, as far as it is there.
 ghost use mathlib.Core.Path.{_≡_};
 ghost use Rattle.slots.specs.Packed.{slotAt, Stored};
 ghost use Rattle.c_operators.specs.Operators.{binaryNamed, unaryNamed, binarySlot, unarySlot};

@@ -107,8 +107,8 @@ fn run(
     }
 }
 
-// The traversal of two stored ads, whose counts are given: from clear targets, flags and an empty list, each of 2,048 numbers or more, to the targets and flags of
-// their references and the list. The other marks are its own.
+// The traversal of two stored ads, whose counts are given: from clear targets, flags and an empty list, each of 2,048 numbers or more,
+// to the targets and flags of their references and the list. The other marks are its own.
 pub fn traverse(
     first_words: &[u64],
     first_bytes: &[u8],

@@ -7,7 +7,8 @@ ghost use Rattle.links.specs.Pair.{pairSlots};
 ghost use Rattle.links.specs.Inner.Asked.{Measured};
 ghost use Rattle.matching.specs.Matching.{tableWords, Match};
 
-// The match of two well-formed ads, whose counts are given, in a table of 2,048 slots and a list's room of 2,048 entries, whatever they hold.
+// The match of two well-formed ads, whose counts are given, in a table of 2,048 slots and a list's room of 2,048 entries, whatever they
+// hold.
 pub fn match_formed(
     first_words: &[u64],
     first_bytes: &[u8],
