@@ -1,4 +1,6 @@
 // Printing: the definitions of a stored ad, between brackets.
+#![tactic(auto)]
+
 ghost use Rattle.std.specs.Prelude.{◌+◌};
 ghost use Rattle.ad_printer.specs.Inner.Post.{RowFits, RowWritten, TableFits, TableWritten, AdWritten};
 

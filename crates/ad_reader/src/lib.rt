@@ -1,4 +1,6 @@
 // Reading: brackets and the definitions between them, up to the end of the text.
+#![tactic(auto)]
+
 ghost use Rattle.std.specs.Prelude.{◌+◌, ◌≤◌, length};
 ghost use Rattle.ad.specs.Layout.{ad_words};
 ghost use Rattle.leaves.specs.Inner.Marks.{mark, memory};
@@ -12,7 +14,7 @@ use syntax::Symbol;
 use tokens::Token;
 
 // What reading a text gives.
-#[derive(Drop)]
+#[derive(Clone, Copy)]
 pub enum Answer {
     // How many definitions and nodes the ad has.
     Accepted(usize, usize),

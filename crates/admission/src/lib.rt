@@ -1,4 +1,6 @@
 // Whether two stored ads are admitted to a call that is lent them: the rooms are large enough, and both ads are well formed.
+#![tactic(auto)]
+
 ghost use Rattle.std.specs.Prelude.{◌≡◌};
 ghost use Rattle.admission.specs.Admission.{small_pair};
 ghost use Rattle.admission.specs.Inner.Admitting.{Admitting};
@@ -10,7 +12,7 @@ use well_formed::Checked;
 pub const ENTRIES: usize = links::SLOTS;
 
 // A refusal's number; or how many nodes and definitions the first ad and the second have.
-#[derive(Drop)]
+#[derive(Clone, Copy)]
 pub enum Admission {
     Refused(u8),
     Admitted(Counts, Counts),

@@ -1,11 +1,13 @@
 // Arithmetic, and unary plus and minus.
+#![tactic(auto)]
+
 ghost use Rattle.std.specs.Prelude.{◌≡◌};
 ghost use Rattle.arithmetic.specs.Arithmetic.{integers_result, reals_result, arithmetic_value, minus_value, plus_value};
 
 use operands::Operands;
 use values::Value;
 
-#[derive(Drop)]
+#[derive(Clone, Copy)]
 pub enum Arithmetic {
     Sum,
     Difference,

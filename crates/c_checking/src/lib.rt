@@ -1,4 +1,6 @@
 // What the C function that checks does: it calls the function of its name and leaves its answer in numbers (docs/LAYOUT.md).
+#![tactic(auto)]
+
 ghost use Rattle.std.specs.Prelude.{◌≡◌};
 ghost use Rattle.c_checking.specs.Checking.{CheckReported};
 ghost use Rattle.c_checking.specs.Inner.Numbers.{check_numbers};

@@ -1,5 +1,7 @@
 // What the C functions of `? :` and of a real literal do, by packed slots (`crates/slots`). Where an operand's slot is blank, the result is
 // a blank slot. Missing words of `operands` read as 0, and of `result` only slot 0 is written, as far as it is there.
+#![tactic(auto)]
+
 ghost use Rattle.std.specs.Prelude.{◌≡◌};
 ghost use Rattle.values.specs.declared.Value.TheVariants.{Real};
 ghost use Rattle.reals.specs.Reals.{stored_real};

@@ -1,4 +1,6 @@
 // What the C function of a match does: it calls `match_ads` and leaves its answer in numbers (docs/LAYOUT.md).
+#![tactic(auto)]
+
 ghost use Rattle.c_matching.specs.Matching.{MatchReported};
 
 // Matches any numbers that may be two stored ads, in any lent memory.

@@ -1,6 +1,8 @@
 // What the C functions of the operators of one and two operands do, by packed slots (`crates/slots`). An operator is named by the kind
 // of its node; where a number is no operator's, or an operand's slot is blank, the result is a blank slot. Missing words of `operands`
 // read as 0, and of `result` only slot 0 is written, as far as it is there.
+#![tactic(auto)]
+
 ghost use Rattle.std.specs.Prelude.{◌≡◌};
 ghost use Rattle.slots.specs.Packed.{slot_at, Stored};
 ghost use Rattle.c_operators.specs.Operators.{binary_named, unary_named, binary_slot, unary_slot};
@@ -9,14 +11,14 @@ use slots::Slot;
 use syntax::{Binary, Unary};
 
 // The operator of two operands that a number names.
-#[derive(Drop)]
+#[derive(Clone, Copy)]
 pub enum Two {
     Nothing,
     Operator(Binary),
 }
 
 // The operator of one operand that a number names.
-#[derive(Drop)]
+#[derive(Clone, Copy)]
 pub enum One {
     Nothing,
     Operator(Unary),

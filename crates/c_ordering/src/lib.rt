@@ -1,4 +1,6 @@
 // What the C function of two ads' dependencies does: it calls `order_ads` and leaves its answer in numbers (docs/LAYOUT.md).
+#![tactic(auto)]
+
 ghost use Rattle.std.specs.Prelude.{◌≡◌};
 ghost use Rattle.c_ordering.specs.Ordering.{order_numbers, OrderReported};
 

@@ -1,4 +1,6 @@
 // What a match answers, in numbers (docs/LAYOUT.md).
+#![tactic(auto)]
+
 ghost use Rattle.std.specs.Prelude.{◌≡◌};
 ghost use Rattle.c_outcomes.specs.Outcomes.{outcome_numbers};
 

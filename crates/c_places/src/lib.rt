@@ -1,5 +1,7 @@
 // What the C functions of a node's definition and of a place in a text do: each calls the function of its kind and leaves its answer in
 // numbers (docs/LAYOUT.md).
+#![tactic(auto)]
+
 ghost use Rattle.std.specs.Prelude.{◌≡◌};
 ghost use Rattle.c_places.specs.Inspecting.{position_numbers, holder_numbers};
 ghost use Rattle.holders.specs.Holders.{holder};

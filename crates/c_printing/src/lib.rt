@@ -1,4 +1,6 @@
 // What the C functions that print do: each calls the function of its name and leaves its answer in numbers (docs/LAYOUT.md).
+#![tactic(auto)]
+
 ghost use Rattle.std.specs.Prelude.{◌≡◌};
 ghost use Rattle.c_printing.specs.Printing.{print_numbers, PrintReported};
 ghost use Rattle.inspection.specs.Inspection.{node_text};

@@ -1,4 +1,6 @@
 // What the C function that reads does: it calls the function of its name and leaves its answer in numbers (docs/LAYOUT.md).
+#![tactic(auto)]
+
 ghost use Rattle.std.specs.Prelude.{◌≡◌};
 ghost use Rattle.c_reading.specs.Reading.{numbers_of, Reported};
 

@@ -1,4 +1,6 @@
 // What the C functions of values do: each calls the function of its name and leaves its answer in numbers (docs/LAYOUT.md).
+#![tactic(auto)]
+
 ghost use Rattle.std.specs.Prelude.{◌≡◌, cond, not, eqb, length};
 ghost use Rattle.results.specs.Results.{shown_at};
 ghost use Rattle.c_results.specs.Showing.{held_numbers, slot_numbers, StringPlaced};

@@ -1,4 +1,6 @@
 // What the C function of a roster does: it calls `match_roster` and leaves its answer in numbers (docs/LAYOUT.md).
+#![tactic(auto)]
+
 ghost use Rattle.std.specs.Prelude.{◌≡◌};
 ghost use Rattle.c_roster.specs.Roster.{roster_numbers, RosterReported};
 

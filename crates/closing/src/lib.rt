@@ -1,4 +1,6 @@
 // The transitions of the loop searches that leave a node which has no link left, and close a component's nodes.
+#![tactic(auto)]
+
 ghost use Rattle.std.specs.Prelude.{◌≡◌, List, ℕ, ◌-◌, ◌≤◌, ◌<◌, length};
 ghost use Rattle.graph.specs.Graph.{Graph};
 ghost use Rattle.graph.specs.Transition.{named, back_open, back_closed, next_open, transition};

@@ -1,4 +1,6 @@
 // The six comparisons.
+#![tactic(auto)]
+
 ghost use Rattle.std.specs.Prelude.{◌≡◌, true, false, take, drop};
 ghost use Rattle.text.specs.Strings.{string_order};
 ghost use Rattle.values.specs.Values.{bytes_at};
@@ -8,7 +10,7 @@ use operands::Operands;
 use text::Order;
 use values::Value;
 
-#[derive(Drop)]
+#[derive(Clone, Copy)]
 pub enum Comparison {
     Equal,
     NotEqual,

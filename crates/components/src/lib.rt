@@ -1,5 +1,7 @@
 // The transitions of the loop searches, which find the strongly connected components, n searches in all: a search begins, and follows a
 // link.
+#![tactic(auto)]
+
 ghost use Rattle.std.specs.Prelude.{◌≡◌, List, ℕ, ◌+◌, ◌*◌, ◌≤◌, ◌<◌, min, length, set};
 ghost use Rattle.graph.specs.Graph.{Graph};
 ghost use Rattle.graph.specs.Transition.{searched_to, transition};

@@ -1,13 +1,15 @@
 // The shortest decimal of a Real, for a person to read: the fewest digits that read back as the same 64-bit float, and of these the
 // closest to it. Each number here is digits from the left, POINT of them before the point, so that every float is exact.
 // What is written is compared with another program's, and not proved; that no call goes wrong is.
+#![tactic(auto)]
+
 ghost use Rattle.std.specs.Prelude.{◌≤◌, ◌<◌, length};
 
 // A float has at most 309 digits before the point and 1,074 behind it; the ends of what reads as it have up to two more behind it.
 pub const POINT: usize = 328;
 
 // A float, `whole` · 2^(exponent - 1077), and in the same way the ends of what reads as it; whether the ends do so too.
-#[derive(Drop)]
+#[derive(Clone, Copy)]
 struct Parts {
     low: u64,
     whole: u64,
@@ -278,7 +280,7 @@ fn ascii(d: &[u8], i: usize) -> u8 {
 }
 
 // Where a shortest decimal's digits stand: its first, and one behind its last.
-#[derive(Drop)]
+#[derive(Clone, Copy)]
 pub struct Span {
     pub first: usize,
     pub last: usize,

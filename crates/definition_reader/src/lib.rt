@@ -1,4 +1,6 @@
 // Reading: one definition, behind its name.
+#![tactic(auto)]
+
 ghost use Rattle.std.specs.Prelude.{◌+◌, ◌≤◌, ◌<◌};
 ghost use Rattle.leaves.specs.Inner.Marks.{mark, memory};
 ghost use Rattle.definition_reader.specs.Inner.Post.{AdRoom, DefinitionOk, DefinitionWithin};

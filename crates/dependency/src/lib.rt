@@ -1,4 +1,6 @@
 // Dependencies: the traversal of two stored ads, which finds the circular references and the list.
+#![tactic(auto)]
+
 ghost use Rattle.std.specs.Prelude.{◌≡◌, cond, ◌+◌, ◌<◌, length, replicate, ltb};
 ghost use Rattle.graph.specs.declared.Place.TheVariants.{Resolving, Between};
 ghost use Rattle.links.specs.Pair.{pair_graph};
@@ -13,7 +15,7 @@ use lookup::Roots;
 use marks::Position;
 
 // How many transitions the traversal took, how long the list is, and where it began.
-#[derive(Drop)]
+#[derive(Clone, Copy)]
 pub struct Traversal {
     pub count: usize,
     pub length: usize,
@@ -21,7 +23,7 @@ pub struct Traversal {
 }
 
 // How many transitions a run of them took, and how long the list is.
-#[derive(Drop)]
+#[derive(Clone, Copy)]
 struct Taken {
     count: usize,
     length: usize,

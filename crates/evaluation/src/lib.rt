@@ -1,4 +1,6 @@
 // Evaluation: the value that the table holds for a node's need.
+#![tactic(auto)]
+
 ghost use Rattle.std.specs.Prelude.{◌≡◌, List, map, ℕ, ◌<◌};
 ghost use Rattle.links.specs.Pair.{pair_graph};
 ghost use Rattle.slots.specs.Packed.{slot_at};

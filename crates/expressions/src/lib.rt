@@ -1,4 +1,6 @@
 // The readers of expressions: conditional, binary levels, unary and primary call each other in a cycle.
+#![tactic(auto)]
+
 ghost use Rattle.std.specs.Prelude.{◌≡◌, ◌+◌, ◌≤◌, ◌<◌};
 ghost use Rattle.ad.specs.Layout.{unary_kind, binary_kind};
 ghost use Rattle.leaves.specs.Inner.Marks.{mark, memory, Room};
@@ -8,7 +10,7 @@ use leaves::Leaf;
 use lookahead::{BinaryAt, SymbolAt, UnaryAt};
 use syntax::{Binary, Symbol, Unary};
 
-#[derive(Drop)]
+#[derive(Clone, Copy)]
 pub enum Read {
     // The place behind what was read, and how many nodes and bytes are stored then.
     Done(usize, usize, usize),

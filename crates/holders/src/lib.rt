@@ -1,9 +1,11 @@
 // The definition of a stored ad that a node belongs to, and its name.
+#![tactic(auto)]
+
 ghost use Rattle.std.specs.Prelude.{◌≡◌};
 ghost use Rattle.holders.specs.Holders.{holder, holder_name};
 
 // The definition that a node belongs to, by its number.
-#[derive(Drop)]
+#[derive(Clone, Copy)]
 pub enum Holder {
     Definition(usize),
     Nothing,

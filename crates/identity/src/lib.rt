@@ -1,4 +1,6 @@
 // `is` and `isnt`: the same kind and the same value.
+#![tactic(auto)]
+
 ghost use Rattle.std.specs.Prelude.{◌≡◌, true, false, take, drop};
 ghost use Rattle.text.specs.Strings.{same_bytes};
 ghost use Rattle.identity.specs.Identity.{same_undefined, same_error, same_boolean, same_integer, same_real, same_string, same_value, is_value, isnt_value};

@@ -1,4 +1,6 @@
 // What a stored ad shows of one of its nodes: its expression's text.
+#![tactic(auto)]
+
 ghost use Rattle.std.specs.Prelude.{◌≡◌, length};
 ghost use Rattle.ad.specs.Layout.{ad_words, ad_bytes_room};
 ghost use Rattle.printer.specs.Prints.{PrintsText};

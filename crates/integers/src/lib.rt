@@ -1,4 +1,6 @@
 // Integers in two's complement, carried as unsigned codes. The arithmetic wraps.
+#![tactic(auto)]
+
 ghost use Rattle.std.specs.Prelude.{◌≡◌, unsigned_abs};
 ghost use Rattle.integers.specs.Integers.{width, signed, wrapped_sum, wrapped_difference, wrapped_product, wrapped_negation, truncated_quotient, signed_remainder, less_than};
 

@@ -1,4 +1,6 @@
 // Printing: the literal or reference at one stored node.
+#![tactic(auto)]
+
 ghost use Rattle.std.specs.Prelude.{eqb};
 ghost use Rattle.syntax.specs.Tree.{boolean};
 ghost use Rattle.syntax.specs.Print.{literal_text};

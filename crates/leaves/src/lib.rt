@@ -1,4 +1,6 @@
 // Literals and references: read at a place of a text and stored.
+#![tactic(auto)]
+
 ghost use Rattle.std.specs.Prelude.{◌≡◌, ◌+◌, ◌*◌, ◌-◌, ◌≤◌, ◌<◌, length, drop};
 ghost use Rattle.std.proofs.lemmas.List.Edits.{sets};
 ghost use Rattle.std.proofs.Math.Seq.{slice};
@@ -14,7 +16,7 @@ use syntax::Symbol;
 use tokens::{Constant, Token};
 
 // What stands at a place where an operand can begin.
-#[derive(Drop)]
+#[derive(Clone, Copy)]
 pub enum Leaf {
     // A literal or reference: the place behind it, and how many nodes and bytes are stored then.
     Done(usize, usize, usize),

@@ -1,4 +1,6 @@
 // Names and literals: which ones a text can write, and how long they print.
+#![tactic(auto)]
+
 ghost use Rattle.std.specs.Prelude.{◌≡◌, ◌&&◌, ◌||◌, ◌+◌, ◌*◌, ◌/◌, ◌≤◌, length};
 ghost use Rattle.syntax.specs.Bounds.{string_bytes};
 ghost use Rattle.text.specs.Bytes.{continues_name};

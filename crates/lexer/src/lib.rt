@@ -1,4 +1,6 @@
 // The token at a place of a text.
+#![tactic(auto)]
+
 ghost use Rattle.std.specs.Prelude.{◌≡◌, ◌+◌, ◌≤◌, ◌<◌, length, drop};
 ghost use Rattle.syntax.specs.Token.{escape_of, string_of, body_of, symbol_in, spellings};
 ghost use Rattle.tokens.specs.Inner.Meaning.{Placed};
@@ -8,7 +10,7 @@ use signs::Sign;
 use tokens::Token;
 
 // What stands at a place inside a string: its end, a byte and the place behind it, or what no string can hold.
-#[derive(Drop)]
+#[derive(Clone, Copy)]
 pub enum StringStep {
     Close,
     Byte(u8, usize),
@@ -16,7 +18,7 @@ pub enum StringStep {
 }
 
 // A string behind its opening quote: how many bytes it has, and the place behind its closing quote.
-#[derive(Drop)]
+#[derive(Clone, Copy)]
 pub enum StringEnd {
     Closed(usize, usize),
     Broken,

@@ -1,4 +1,6 @@
 // What one line of a roster gives: its refusal, or the match of the job with its bench.
+#![tactic(auto)]
+
 ghost use Rattle.line_match.specs.LineMatch.{LineLeaves};
 ghost use Rattle.line_match.specs.Inner.Asked.{LineRoom};
 

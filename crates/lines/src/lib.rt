@@ -1,4 +1,6 @@
 // The lines of a text: where each ends, where the next begins, and how many there are.
+#![tactic(auto)]
+
 ghost use Rattle.std.specs.Prelude.{◌≡◌, ℕ, ◌+◌, ◌≤◌, ◌<◌, min, false, length, get_or, drop};
 ghost use Rattle.lines.specs.Lines.{up_to, lines_of};
 ghost use Rattle.lines.specs.Inner.Feeds.{feeds_in};

@@ -1,4 +1,6 @@
 // The graph of two stored ads: its nodes, links and roots by their numbers.
+#![tactic(auto)]
+
 ghost use Rattle.std.specs.Prelude.{◌≡◌, cond, List, ℕ, ◌+◌, ◌-◌, ◌≤◌, ◌<◌, length, get_or, ltb};
 ghost use Rattle.syntax.specs.Bounds.{max_nodes};
 ghost use Rattle.ad.specs.Layout.{ad_words};
@@ -12,7 +14,7 @@ ghost use Rattle.graph.specs.Members.{numbers, raised};
 pub const SLOTS: usize = 2 * syntax::NODES;
 
 // How many nodes and definitions an ad has.
-#[derive(Drop)]
+#[derive(Clone, Copy)]
 pub struct Counts {
     pub nodes: usize,
     pub definitions: usize,

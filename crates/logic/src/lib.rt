@@ -1,11 +1,13 @@
 // The logical operators, by document 01's tables.
+#![tactic(auto)]
+
 ghost use Rattle.std.specs.Prelude.{◌≡◌, true, false};
 ghost use Rattle.logic.specs.Logic.{truth_of, row, and_value, or_value, not_value, conditional_value};
 
 use values::Value;
 
 // What the tables of the logical operators see of a value: false, Undefined, true, or anything other.
-#[derive(Drop)]
+#[derive(Clone, Copy)]
 pub enum Truth {
     F,
     U,

@@ -1,4 +1,6 @@
 // What the readers ask of the token at a place.
+#![tactic(auto)]
+
 ghost use Rattle.std.specs.Prelude.{◌≡◌, ◌≤◌, length};
 ghost use Rattle.syntax.specs.Token.{operator, symbol};
 ghost use Rattle.syntax.specs.Grammar.{binds_of};
@@ -9,28 +11,28 @@ use syntax::{Binary, Symbol, Unary};
 use tokens::Token;
 
 // A symbol's place and the place behind it; or the number and place of the refusal of what is there.
-#[derive(Drop)]
+#[derive(Clone, Copy)]
 pub enum SymbolAt {
     Here(usize, usize),
     Absent(u8, usize),
 }
 
 // A Name's place and the place behind it; or the refusal of what is there.
-#[derive(Drop)]
+#[derive(Clone, Copy)]
 pub enum WordAt {
     Here(usize, usize),
     Absent(u8, usize),
 }
 
 // An operator of two operands, its place and the place behind it.
-#[derive(Drop)]
+#[derive(Clone, Copy)]
 pub enum BinaryAt {
     Here(Binary, usize, usize),
     Absent,
 }
 
 // An operator of one operand, its place and the place behind it.
-#[derive(Drop)]
+#[derive(Clone, Copy)]
 pub enum UnaryAt {
     Here(Unary, usize, usize),
     Absent,

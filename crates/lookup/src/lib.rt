@@ -1,4 +1,6 @@
 // Looking names up in two ads, by fingerprints: a name is compared only with those that have its own. The four roots are found so too.
+#![tactic(auto)]
+
 ghost use Rattle.std.specs.Prelude.{◌≡◌, map, ◌++◌, ◌+◌, ◌≤◌, ◌<◌, ◌-◌, length, get_or, take, false, true, not, cond};
 ghost use Rattle.syntax.specs.Bounds.{max_definitions, max_nodes};
 ghost use Rattle.ad.specs.Layout.{ad_words};
@@ -200,7 +202,7 @@ pub fn fingerprints(
 }
 
 // The roots of the first ad's Requirements, the second's, the first's Rank, the second's: each one more than its number, 0 for none.
-#[derive(Drop)]
+#[derive(Clone, Copy)]
 pub struct Roots {
     pub first_requirements: usize,
     pub second_requirements: usize,

@@ -1,4 +1,6 @@
 // The slice of marks: six numbers a node, of 16 bits each, since from clear marks no height is above 2,049. And where the traversal stands.
+#![tactic(auto)]
+
 ghost use Rattle.std.specs.Prelude.{◌≡◌, [], ◌∷◌, ◌+◌, ◌*◌, ◌≤◌, ◌<◌, length, set};
 ghost use Rattle.graph.specs.Graph.{Graph};
 ghost use Rattle.graph.specs.Transition.{named};
@@ -7,7 +9,7 @@ ghost use Rattle.marks.specs.Inner.Memory.{mark_at, marks_room, mark_words, fill
 use graph::Place;
 
 // Where the traversal stands, and how long the list is.
-#[derive(Drop)]
+#[derive(Clone, Copy)]
 pub struct Position {
     pub place: Place,
     pub len: usize,

@@ -1,4 +1,6 @@
 // The match of two well-formed ads in memory that holds anything: it is cleared first.
+#![tactic(auto)]
+
 ghost use Rattle.std.specs.Prelude.{◌≡◌, length};
 ghost use Rattle.links.specs.Pair.{pair_slots};
 ghost use Rattle.links.specs.Inner.Asked.{Measured};

@@ -1,4 +1,6 @@
 // The match of any numbers that may be two stored ads, in any lent memory: it is admitted or refused, and then made.
+#![tactic(auto)]
+
 ghost use Rattle.matching.specs.Matching.{Matched};
 
 use admission::Admission;

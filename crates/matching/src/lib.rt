@@ -1,4 +1,6 @@
 // The match of two stored ads.
+#![tactic(auto)]
+
 ghost use Rattle.std.specs.Prelude.{◌≡◌, length, replicate};
 ghost use Rattle.links.specs.Pair.{pair_slots};
 ghost use Rattle.links.specs.Inner.Asked.{Measured};
@@ -12,7 +14,7 @@ pub const VALUES: usize = 2 * links::SLOTS;
 
 // What a match answers: a refusal's number and place; verdict, both ranks and steps of a finished one; or the steps done. The last
 // number is how many transitions its traversal took.
-#[derive(Drop)]
+#[derive(Clone, Copy)]
 pub enum Outcome {
     Refused(u8, usize),
     Finished(bool, u32, u32, usize, usize),

@@ -1,4 +1,6 @@
 // A name's fingerprint: names that match have the same one, so that names of different fingerprints need not be compared.
+#![tactic(auto)]
+
 ghost use Rattle.std.specs.Prelude.{◌≡◌, ◌<◌};
 ghost use Rattle.names.specs.Inner.Fingerprint.{mixed, fingerprint_of};
 

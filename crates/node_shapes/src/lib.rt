@@ -1,4 +1,6 @@
 // What a stored node is by its kind: a leaf, or an operator whose operands are the nodes before it.
+#![tactic(auto)]
+
 ghost use Rattle.std.specs.Prelude.{◌≡◌, ◌+◌, ◌≤◌, ◌<◌, length, eqb};
 ghost use Rattle.syntax.specs.Bounds.{max_nodes};
 ghost use Rattle.ad.specs.Layout.{ad_words};
@@ -7,7 +9,7 @@ ghost use Rattle.node_shapes.specs.Inner.Shapes.{one_fits, two_fits, three_fits,
 use lexemes::both;
 
 // What the nodes of a run are: a leaf, or an operator with the last nodes of its operands.
-#[derive(Drop)]
+#[derive(Clone, Copy)]
 pub enum Shape {
     Leaf,
     One(usize),

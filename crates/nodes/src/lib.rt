@@ -1,4 +1,6 @@
 // A node as it is evaluated: what it is, and what its rule makes of the values of its needs.
+#![tactic(auto)]
+
 ghost use Rattle.std.specs.Prelude.{◌≡◌};
 ghost use Rattle.nodes.specs.Nodes.{constant_of, node_of, applied};
 
@@ -6,7 +8,7 @@ use syntax::{Binary, Unary};
 use values::Value;
 
 // 'A node is a literal, a reference or an operator.' A literal is kept as its value.
-#[derive(Drop)]
+#[derive(Clone, Copy)]
 pub enum Node {
     Constant(Value),
     Reference,

@@ -1,11 +1,13 @@
 // What two operands are to a strict operator.
+#![tactic(auto)]
+
 ghost use Rattle.std.specs.Prelude.{◌≡◌};
 ghost use Rattle.operands.specs.Inner.Operands.{with_undefined, with_integer, with_real, with_string, operands_of, number_only};
 
 use values::Value;
 
 // What two operands are to a strict operator: not admitted, one of them Undefined, or the two values.
-#[derive(Drop)]
+#[derive(Clone, Copy)]
 pub enum Operands {
     Refused,
     Missing,

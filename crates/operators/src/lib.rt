@@ -1,4 +1,6 @@
 // The operators of an expression, each by its rule.
+#![tactic(auto)]
+
 ghost use Rattle.std.specs.Prelude.{◌≡◌};
 ghost use Rattle.operators.specs.Operators.{binary_value, unary_value};
 

@@ -1,4 +1,6 @@
 // The circular references and the evaluation order of two stored ads, whatever is lent.
+#![tactic(auto)]
+
 ghost use Rattle.std.specs.Prelude.{◌≡◌, length, replicate};
 ghost use Rattle.links.specs.Pair.{pair_slots};
 ghost use Rattle.links.specs.Inner.Asked.{Measured};
@@ -8,7 +10,7 @@ use admission::Admission;
 use links::Counts;
 
 // A refusal's number and place; or how many transitions the traversal took, and how long the list is.
-#[derive(Drop)]
+#[derive(Clone, Copy)]
 pub enum Order {
     Refused(u8, usize),
     Found(usize, usize),

@@ -1,4 +1,6 @@
 // A part of a slice of bytes.
+#![tactic(auto)]
+
 ghost use Rattle.std.specs.Prelude.{◌≡◌, take, drop};
 ghost use Rattle.parts.specs.Parts.{PartFrom};
 

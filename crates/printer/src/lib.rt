@@ -1,4 +1,6 @@
 // Printing: a stored ad to its text.
+#![tactic(auto)]
+
 ghost use Rattle.std.specs.Prelude.{◌≡◌, ◌<◌, length};
 ghost use Rattle.ad.specs.Layout.{ad_words, ad_bytes_room};
 ghost use Rattle.printer.specs.Prints.{Prints, HandsBack};
@@ -6,7 +8,7 @@ ghost use Rattle.printer.specs.Prints.{Prints, HandsBack};
 use well_formed::Checked;
 
 // What printing gives.
-#[derive(Drop)]
+#[derive(Clone, Copy)]
 pub enum Printed {
     // The length of the text.
     Text(usize),

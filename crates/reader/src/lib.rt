@@ -1,4 +1,6 @@
 // Reading: any bytes to a stored ad, or to a refusal.
+#![tactic(auto)]
+
 ghost use Rattle.std.specs.Prelude.{◌<◌};
 ghost use Rattle.reader.specs.Content.{Answered};
 ghost use Rattle.reader.specs.Inner.Leaving.{Exact, Left, Cleared};

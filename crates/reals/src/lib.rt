@@ -1,4 +1,6 @@
 // Reals: a real literal and an Integer as a Real, each rounded once.
+#![tactic(auto)]
+
 ghost use Rattle.std.specs.Prelude.{◌≡◌, ◌<◌, ◌^◌};
 ghost use Rattle.integers.specs.Integers.{width};
 ghost use Rattle.reals.specs.Reals.{literal_real, stored_real, integer_real};

@@ -1,4 +1,6 @@
 // What is shown of a match: the value in a slot of its table, and the bytes of a String.
+#![tactic(auto)]
+
 ghost use Rattle.std.specs.Prelude.{◌≡◌, cond};
 ghost use Rattle.parts.specs.Parts.{PartFrom};
 ghost use Rattle.values.specs.Values.{bytes_at};

@@ -1,4 +1,6 @@
 // A job against a roster: a line for each bench, its outcome, and a report.
+#![tactic(auto)]
+
 ghost use Rattle.roster.specs.Roster.{Rostered};
 ghost use Rattle.roster.specs.Inner.Progress.{Tested, Lent, Asked, Listed, Cleared};
 
@@ -13,7 +15,7 @@ pub const LINES: usize = 256;
 pub const OUTCOMES: usize = LINES * tally::ROW;
 
 // What the call answers: a refusal's number and place, or the report.
-#[derive(Drop)]
+#[derive(Clone, Copy)]
 pub enum Answer {
     Refused(u8, usize),
     Done(Report),

@@ -1,1 +1,3 @@
 // What is proved of a roster's contract, for a caller who holds only that.
+
+#![tactic(auto)]

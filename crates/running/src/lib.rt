@@ -1,4 +1,6 @@
 // The run over the list, one step for each entry.
+#![tactic(auto)]
+
 ghost use Rattle.std.specs.Prelude.{◌≡◌, ◌+◌, ◌-◌, ◌≤◌, ◌<◌, length, get_or};
 ghost use Rattle.links.specs.Pair.{pair_graph};
 ghost use Rattle.evaluation.specs.Evaluation.{rule_at, needed, entries, RunTo};

@@ -1,4 +1,6 @@
 // The symbol or operator at a place of a text.
+#![tactic(auto)]
+
 ghost use Rattle.std.specs.Prelude.{◌≡◌, [], ◌∷◌, ◌+◌, ◌≤◌, ◌<◌, length, get_or, drop, take};
 ghost use Rattle.syntax.specs.Token.{symbol_in, spellings};
 ghost use Rattle.signs.specs.Inner.Meaning.{sign_front, SignMeans};
@@ -6,7 +8,7 @@ ghost use Rattle.signs.specs.Inner.Meaning.{sign_front, SignMeans};
 use syntax::{Binary, Symbol};
 
 // A symbol or operator, and how many bytes it has.
-#[derive(Drop)]
+#[derive(Clone, Copy)]
 pub enum Sign {
     Operator(Binary, usize),
     Symbol(Symbol, usize),

@@ -1,4 +1,6 @@
 // Slots of the table of values, packed to two words each in lent memory.
+#![tactic(auto)]
+
 ghost use Rattle.std.specs.Prelude.{◌≡◌, ◌+◌, ◌*◌, ◌<◌, get_or, set};
 ghost use Rattle.std.specs.Float.{binary64};
 ghost use Rattle.std.specs.Float.Ieee.{to_bits, of_bits};
@@ -8,7 +10,7 @@ ghost use Rattle.slots.specs.Inner.Packing.{Packs};
 use values::Value;
 
 // 'Each slot of the table is blank or holds a value.'
-#[derive(Drop)]
+#[derive(Clone, Copy)]
 pub enum Slot {
     Blank,
     Held(Value),

@@ -1,4 +1,6 @@
 // The step, which works out one node's value from the slots of its needs.
+#![tactic(auto)]
+
 ghost use Rattle.std.specs.Prelude.{◌≡◌, ◌-◌, ◌≤◌, ◌<◌, length};
 ghost use Rattle.syntax.specs.Bounds.{max_nodes};
 ghost use Rattle.ad.specs.Layout.{ad_words};

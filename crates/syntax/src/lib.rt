@@ -1,6 +1,8 @@
 // The words of the language that every layer shares: document 01's bounds, the operators and the other symbols.
 
 // 'Numbers that bound it': each is itself accepted, and one more is refused.
+#![tactic(auto)]
+
 pub const TEXT_BYTES: usize = 16384;
 
 pub const DEFINITIONS: usize = 256;
@@ -14,7 +16,7 @@ pub const STRING_BYTES: usize = 1024;
 pub const LEVELS: usize = 64;
 
 // Operators of two operands, loosest first: 'Binding, loosest first'.
-#[derive(Drop)]
+#[derive(Clone, Copy)]
 pub enum Binary {
     Or,
     And,
@@ -34,7 +36,7 @@ pub enum Binary {
 }
 
 // Operators of one operand: 'unary `! + -`'.
-#[derive(Drop)]
+#[derive(Clone, Copy)]
 pub enum Unary {
     Not,
     Plus,
@@ -42,7 +44,7 @@ pub enum Unary {
 }
 
 // What a token can be that is no name, no literal and no operator of two operands.
-#[derive(Drop)]
+#[derive(Clone, Copy)]
 pub enum Symbol {
     Exclamation,
     Question,

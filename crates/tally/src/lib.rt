@@ -1,4 +1,6 @@
 // What the outcomes of a roster come to: the words of each, and the report.
+#![tactic(auto)]
+
 ghost use Rattle.std.specs.Prelude.{◌≡◌, ◌+◌, ◌*◌, ◌≤◌, length};
 ghost use Rattle.std.proofs.lemmas.List.Edits.{sets};
 ghost use Rattle.tally.specs.Tally.{place_of, row_of};
@@ -11,7 +13,7 @@ pub const ROW: usize = 8;
 
 // How many lines there are, how many of them matched, did not match and were refused, and the sum of the job's ranks over those that
 // matched.
-#[derive(Drop)]
+#[derive(Clone, Copy)]
 pub struct Report {
     pub lines: usize,
     pub matched: usize,

@@ -1,10 +1,12 @@
 // Bytes and strings of bytes.
+#![tactic(auto)]
+
 ghost use Rattle.std.specs.Prelude.{◌≡◌};
 ghost use Rattle.text.specs.Bytes.{is_blank, is_digit, is_letter, starts_name, continues_name, lower_case};
 ghost use Rattle.text.specs.Strings.{same_bytes, same_name, string_order};
 
 // How a string stands to another.
-#[derive(Drop)]
+#[derive(Clone, Copy)]
 pub enum Order {
     Less,
     Same,

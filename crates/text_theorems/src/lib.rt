@@ -1,1 +1,3 @@
 // What is proved of reading and printing from their contracts: in specs/.
+
+#![tactic(auto)]

@@ -1,4 +1,6 @@
 // What a token is; names and reserved words as tokens.
+#![tactic(auto)]
+
 ghost use Rattle.std.specs.Prelude.{◌≡◌, false, ◌≤◌, ◌<◌, length, drop};
 ghost use Rattle.syntax.specs.Token.{name_front};
 ghost use Rattle.tokens.specs.Inner.Meaning.{Run, AtByte, class_of, WordMeans, Placed};
@@ -6,7 +8,7 @@ ghost use Rattle.tokens.specs.Inner.Meaning.{Run, AtByte, class_of, WordMeans, P
 use syntax::{Binary, Symbol};
 
 // A literal that has no bytes of its own.
-#[derive(Drop)]
+#[derive(Clone, Copy)]
 pub enum Constant {
     Undefined,
     Error,
@@ -17,7 +19,7 @@ pub enum Constant {
 }
 
 // A token: each but the end carries the place of its first byte, and then the place behind it.
-#[derive(Drop)]
+#[derive(Clone, Copy)]
 pub enum Token {
     // The text's length.
     End(usize),

@@ -1,4 +1,6 @@
 // The check of one stored expression: whether some nodes are its tree, how it binds, its levels and how long it prints.
+#![tactic(auto)]
+
 ghost use Rattle.std.specs.Prelude.{◌≡◌, cond, ◌&&◌, ◌+◌, ◌-◌, ◌≤◌, ◌<◌, max, length, ltb};
 ghost use Rattle.syntax.specs.Bounds.{max_nodes};
 ghost use Rattle.ad.specs.Layout.{ad_words, ad_bytes_room};
@@ -14,7 +16,7 @@ use node_shapes::Shape;
 use syntax::Binary;
 
 // What stands in a run of nodes.
-#[derive(Drop)]
+#[derive(Clone, Copy)]
 pub enum Walk {
     // The place behind its bytes, how it binds, the highest level and the length of its print.
     Tree(usize, usize, usize, usize),

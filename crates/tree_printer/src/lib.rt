@@ -1,4 +1,6 @@
 // Printing: one stored expression.
+#![tactic(auto)]
+
 ghost use Rattle.std.specs.Prelude.{◌≡◌, ◌+◌, ◌≤◌, ◌<◌, length};
 ghost use Rattle.syntax.specs.Bounds.{max_nodes};
 ghost use Rattle.ad.specs.Layout.{ad_words};

@@ -1,10 +1,12 @@
 // Values of six kinds, and a String's bytes.
+#![tactic(auto)]
+
 ghost use Rattle.std.specs.Prelude.{◌≡◌, cond};
 ghost use Rattle.parts.specs.Parts.{PartFrom};
 ghost use Rattle.values.specs.Values.{bytes_at};
 
 // A String's place: whether in the second ad's memory, its offset there, its length.
-#[derive(Drop)]
+#[derive(Clone, Copy)]
 pub enum Value {
     Undefined,
     Error,

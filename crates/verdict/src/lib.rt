@@ -1,4 +1,6 @@
 // Verdict and ranks, from the values that a match's table holds.
+#![tactic(auto)]
+
 ghost use Rattle.std.specs.Prelude.{◌≡◌, false, cond, ◌&&◌, ◌-◌, ◌^◌, ltb};
 ghost use Rattle.integers.specs.Integers.{width};
 ghost use Rattle.verdict.specs.Verdict.{is_true, rank_of};
@@ -8,7 +10,7 @@ use lookup::Roots;
 use values::Value;
 
 // Whether both Requirements are true, and both ranks.
-#[derive(Drop)]
+#[derive(Clone, Copy)]
 pub struct Conclusion {
     pub matched: bool,
     pub first_rank: u32,

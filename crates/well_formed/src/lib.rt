@@ -1,4 +1,6 @@
 // The check of stored ads: whether any numbers are a stored ad (refusal 10).
+#![tactic(auto)]
+
 ghost use Rattle.std.specs.Prelude.{◌≡◌, cond, ◌+◌, ◌≤◌, ◌<◌, length, eqb};
 ghost use Rattle.syntax.specs.Bounds.{max_definitions};
 ghost use Rattle.ad.specs.Layout.{ad_words, ad_bytes_room};
@@ -10,7 +12,7 @@ use lexemes::both;
 use tree_check::Walk;
 
 // What stands in the definitions.
-#[derive(Drop)]
+#[derive(Clone, Copy)]
 pub enum Rows {
     // How many definitions and nodes there are, the place behind their bytes, and how long they print with two bytes behind each.
     Ads(usize, usize, usize, usize),
@@ -18,7 +20,7 @@ pub enum Rows {
 }
 
 // What a stored ad is.
-#[derive(Drop)]
+#[derive(Clone, Copy)]
 pub enum Checked {
     // How many definitions and nodes it has, and how long it prints.
     WellFormed(usize, usize, usize),
