@@ -40,6 +40,7 @@ fn end_at(text: &[u8], at: usize, d: usize, n: usize) -> Answer
 
 // Behind `[` or `;`: the closing bracket, or a definition. d definitions are stored, with n nodes and k bytes.
 #[cycle(read_behind_read_definitions)]
+#[cycle(definitions)]
 fn read_definitions(
     text: &[u8],
     at: usize,
@@ -68,6 +69,7 @@ fn read_definitions(
 
 // Behind a definition: `;` and more, or the closing bracket.
 #[cycle(read_behind_read_definitions)]
+#[cycle(definitions)]
 fn read_behind(
     text: &[u8],
     at: usize,

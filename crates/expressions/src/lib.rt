@@ -52,6 +52,7 @@ fn unary_kind(o: Unary) -> u64
 
 // A whole expression.
 #[cycle(read_arms_read_binary_read_conditional_read_primary_read_rest_read_unary)]
+#[cycle(expression)]
 pub fn read_conditional(
     text: &[u8],
     at: usize,
@@ -74,6 +75,7 @@ pub fn read_conditional(
 
 // Behind an operand: the arms of a conditional, where a `?` follows.
 #[cycle(read_arms_read_binary_read_conditional_read_primary_read_rest_read_unary)]
+#[cycle(expression)]
 fn read_arms(
     text: &[u8],
     at: usize,
@@ -125,6 +127,7 @@ fn read_arms(
 
 // Operands of operators that bind at `level` or tighter. Level 7 is a unary expression.
 #[cycle(read_arms_read_binary_read_conditional_read_primary_read_rest_read_unary)]
+#[cycle(expression)]
 fn read_binary(
     text: &[u8],
     at: usize,
@@ -151,6 +154,7 @@ fn read_binary(
 
 // Behind a left operand: the operators of the level that follow, which group to the left.
 #[cycle(read_arms_read_binary_read_conditional_read_primary_read_rest_read_unary)]
+#[cycle(expression)]
 fn read_rest(
     text: &[u8],
     at: usize,
@@ -185,6 +189,7 @@ fn read_rest(
 }
 
 #[cycle(read_arms_read_binary_read_conditional_read_primary_read_rest_read_unary)]
+#[cycle(expression)]
 fn read_unary(
     text: &[u8],
     at: usize,
@@ -222,6 +227,7 @@ fn read_unary(
 
 // A literal, a reference, or an expression in parentheses.
 #[cycle(read_arms_read_binary_read_conditional_read_primary_read_rest_read_unary)]
+#[cycle(expression)]
 fn read_primary(
     text: &[u8],
     at: usize,

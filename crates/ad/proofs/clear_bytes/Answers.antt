@@ -1,0 +1,22 @@
+use borrow.Author.Rules.{rules}
+use native.Mathlib.Omega.{arith}
+use borrow.Author.Fill.{fill_none, fill_more}
+use mathlib.Core.Path.{◌≡◌, refl, ◌∙◌}
+use mathlib.Core.List.{◌++◌}
+use Prim.Native.Nat.{◌-◌, ◌≤◌, ◌<◌}
+use lib.ListN.{length, drop, replicate, length-set}
+use Rattle.ad.proofs.Laws.{cleared}
+use Rattle.ad.proofs.clear_bytes.Goals as goal
+
+pub loop-i-init : goal.loop-i-init
+loop-i-init c = (omega arith, refl, fill_none _ 0)
+
+pub loop-i-preserved : goal.loop-i-preserved
+loop-i-preserved c =    let h : c.loop-i.i < length c.args.bytes.now = omega arith in (
+      omega arith,
+      simp length-set c.loop-i.invariant.1,
+      rw c.loop-i.invariant.2 (fill_more c.loop-i.i 0 c.args.bytes.now h),
+    )
+
+pub returns : goal.returns
+returns c =    c.loop-i.invariant.2 ∙ cleared c.args.bytes.now c.loop-i.i (omega arith) (omega arith)

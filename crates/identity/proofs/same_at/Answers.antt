@@ -1,0 +1,6 @@
+-- `identity::same_at` meets its contract. Assumes nothing.
+use borrow.Author.Rules.{rules}
+use Rattle.identity.proofs.same_at.Goals as goal
+
+pub returns : goal.returns
+returns c = cc

@@ -1,0 +1,19 @@
+use borrow.Author.Rules.{rules}
+use native.Mathlib.Omega.{arith}
+use mathlib.Core.Path.{◌≡◌, refl, sym, ◌∙◌, ap}
+use Prim.Native.Nat.{◌+◌, ◌-◌, ◌≤◌}
+use lib.ListN.{length, drop, length-set}
+use lib.Seq.{sets}
+use Rattle.syntax.specs.Token.{body_of}
+use Rattle.tokens.specs.Inner.Meaning.{bytes_of}
+use Rattle.leaves.specs.Inner.Marks.{StringFrom}
+use Rattle.leaves.proofs.Laws.{step_next, step_closed, step_broken, step_none, store_byte, shorter}
+use Rattle.leaves.proofs.copy_string.Given as goal
+
+abbrev pub invariant-loop-j : goal.invariant-loop-j
+invariant-loop-j l =
+    (l.bytes ≤ l.end) × (l.end ≤ l.bytes + l.n) × StringFrom l.text l.j (l.bytes + l.n - l.end) × (length l.initial.j ≡ length l.initial.bytes) × (sets
+    l.initial.j l.end (bytes_of (body_of (drop l.j l.text))) ≡ sets l.initial.bytes l.bytes (bytes_of (body_of (drop l.at l.text))))
+
+abbrev pub decreases-loop-j : goal.decreases-loop-j
+decreases-loop-j l = l.bytes + l.n - l.end

@@ -1,0 +1,14 @@
+use mathlib.Core.Path.{◌≡◌}
+use Prim.Native.Nat.{◌+◌, ◌-◌, ◌*◌, ◌≤◌}
+use lib.ListN.{length, drop, length-append}
+use Rattle.syntax.specs.Print.{escaped_all, literal_text}
+use Rattle.lexemes.proofs.Laws.{escaped_more, escaped_end}
+use borrow.Author.Rules.{rules}
+use native.Mathlib.Omega.{arith}
+use Rattle.lexemes.proofs.string_length.Given as goal
+
+abbrev pub invariant-loop-i : goal.invariant-loop-i
+invariant-loop-i l = (l.initial.n ≤ length l.s) × (l.n ≤ 2 * l.initial.n) × (l.n + length (escaped_all (drop l.initial.n l.s)) ≡ length (escaped_all l.s))
+
+abbrev pub decreases-loop-i : goal.decreases-loop-i
+decreases-loop-i l = length l.s - l.initial.n

@@ -1,0 +1,12 @@
+use borrow.Author.Rules.{rules}
+use native.Mathlib.Omega.{arith}
+use Prim.Native.Nat.{◌≤◌, ◌+◌, ◌-◌}
+use lib.ListN.{length}
+use Rattle.lexer.proofs.Laws.{Gone, gone_start, gone_byte, gone_close, gone_broken, string_none}
+use Rattle.lexer.proofs.string_end.Given as goal
+
+abbrev pub invariant-loop-i : goal.invariant-loop-i
+invariant-loop-i l = (l.at + l.n ≤ l.initial.n) × (l.initial.n ≤ length l.text) × Gone l.text l.at l.initial.n l.n
+
+abbrev pub decreases-loop-i : goal.decreases-loop-i
+decreases-loop-i l = length l.text - l.initial.n

@@ -1,0 +1,5 @@
+use borrow.Author.Rules.{rules}
+use Rattle.node_shapes.proofs.two_fits.Goals as goal
+
+pub returns : goal.returns
+returns c = cc

@@ -1,0 +1,12 @@
+use Prim.Native.Nat.{◌-◌}
+use native.Mathlib.Omega.{arith}
+use borrow.Author.Rules.{rules}
+use Rattle.running.proofs.Loop.{Turn, turn_none, turn_first, turn_long, turn_over, turn_spent, turn_entry, turn_step, turn_next}
+use Rattle.running.proofs.run.Given as goal
+
+abbrev pub invariant-loop-n : goal.invariant-loop-n
+invariant-loop-n l =
+    Turn l.first_words l.first_bytes l.second_words l.second_bytes l.target l.flag l.list l.len l.k l.budget l.n l.initial.table l.initial.n
+
+abbrev pub decreases-loop-n : goal.decreases-loop-n
+decreases-loop-n l = l.table - l.n

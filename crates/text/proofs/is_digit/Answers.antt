@@ -1,0 +1,11 @@
+use borrow.Author.Tests.{le-leb, lt-leb}
+use Rattle.text.specs.Bytes.{is_digit}
+use Rattle.text.proofs.is_digit.Goals as goal
+
+pub returns-then-b-ge48 : goal.returns-then-b-ge48
+unfolding is_digit
+returns-then-b-ge48 c = simp (le-leb _ _ c.if-b-ge48.true)
+
+pub returns : goal.returns
+unfolding is_digit
+returns c = simp (lt-leb _ _ c.if-b-ge48.false)

@@ -1,0 +1,6 @@
+use mathlib.Core.Path.{refl, ◌∙◌}
+use borrow.Author.Rules.{rules}
+use Rattle.tree_check.proofs.stands.Goals as goal
+
+pub returns : goal.returns
+returns c = c.both.ensures ∙ rw c.part-part.ensures refl

@@ -1,0 +1,16 @@
+-- `well_formed::zero_words` meets its contract. Assumes nothing.
+use Prim.Native.Nat.{◌-◌}
+use lib.ListN.{length}
+use borrow.Author.Rules.{rules}
+use Rattle.unused_room.proofs.Zeros.{Looked, start, next, end}
+use Rattle.unused_room.proofs.zero_words.Goals as goal
+
+pub loop-i-init : goal.loop-i-init
+loop-i-init c = start _
+
+pub loop-i-preserved : goal.loop-i-preserved
+loop-i-preserved c =    next _ _ _ _ c.loop-i-test.true c.loop-i.invariant
+    c.still_zero-clear.ensures
+
+pub returns : goal.returns
+returns c = end _ _ _ c.loop-i-test.false c.loop-i.invariant

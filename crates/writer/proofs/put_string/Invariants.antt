@@ -1,0 +1,19 @@
+use mathlib.Core.Path.{◌≡◌, refl, ◌∙◌}
+use Prim.Native.Nat.{◌+◌, ◌-◌, ◌≤◌}
+use lib.ListN.{length, drop}
+use lib.Seq.{sets}
+use Rattle.syntax.specs.Print.{escaped_all}
+use Rattle.writer.proofs.Laws.{escaped_step, string_puts, length_string}
+use Rattle.lexemes.proofs.Laws.{escaped_more}
+use borrow.Author.Rules.{rules}
+use native.Mathlib.Omega.{arith}
+use Rattle.writer.proofs.put_string.Given as goal
+
+abbrev pub invariant-loop-i : goal.invariant-loop-i
+invariant-loop-i l =
+    (l.initial.m ≤ length l.s) × (l.m + length (escaped_all (drop l.initial.m l.s)) ≡ l.out + 1 + length (escaped_all l.s)) ×
+    (length l.i ≡ length l.initial.out) × (sets l.i l.m (escaped_all (drop l.initial.m l.s)) ≡ sets l.initial.out (l.out + 1)
+    (escaped_all l.s))
+
+abbrev pub decreases-loop-i : goal.decreases-loop-i
+decreases-loop-i l = length l.s - l.initial.m
