@@ -89,7 +89,7 @@ class Function:
             if best[2] == "ensures" and head in self.clauses and more:
                 more = self.clause_path(self.clauses[head], more)
             return [best[1], best[2]] + more
-        if best and not best[0] and head not in ("match",):
+        if best and not best[0]:
             return [best[1], best[2]] + rest
         if head == "pre":
             head, parts = "requires", ["requires"]
@@ -318,9 +318,8 @@ def turn_file(crate, names, crate_dir, folder):
             body = "\n".join(blocks[1:]) if len(blocks) > 1 else sig.split("\n", 1)[1]
             lhs, rhs = body.split("=", 1)
             args = lhs.split()[1:]
-            want = []
-            for v, ch in zip(row[1], row[2]):
-                want += [f"l.initial.{v}", f"l.{v}"] if ch else [f"l.{v}"]
+            want = [f"l.initial.{v}" if ch else f"l.{v}" for v, ch in zip(row[1], row[2])]
+            want += [f"l.{v}" for v, ch in zip(row[1], row[2]) if ch]
             if len(want) != len(args):
                 fn.say(f"{kind} has {len(args)} arguments for {want}")
             table = {a: w for a, w in zip(args, want) if a != "_"}

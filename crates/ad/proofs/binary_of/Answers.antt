@@ -59,4 +59,4 @@ unfolding binary_of
 returns-in-27 c = rw c.in-27.is
 
 pub returns-in_default : goal.returns-in_default
-returns-in_default c = no_binary c.args.kind c.in_default.rest
+returns-in_default c = no_binary c.args.kind c.in_default.in_default-own.rest

@@ -10,7 +10,7 @@ use Rattle.ad.proofs.clear_bytes.Given as goal
 
 abbrev pub invariant-loop-i : goal.invariant-loop-i
 invariant-loop-i l =
-    (l.i ≤ length l.initial.bytes) × (length l.initial.i ≡ length l.initial.bytes) × (l.initial.i ≡ replicate l.i 0 ++ drop l.i l.initial.bytes)
+    (l.i ≤ length l.initial.bytes) × (length l.bytes ≡ length l.initial.bytes) × (l.bytes ≡ replicate l.i 0 ++ drop l.i l.initial.bytes)
 
 abbrev pub decreases-loop-i : goal.decreases-loop-i
 decreases-loop-i l = length l.initial.bytes - l.i

@@ -9,8 +9,8 @@ use Rattle.ad.proofs.copy.Given as goal
 
 abbrev pub invariant-loop-i : goal.invariant-loop-i
 invariant-loop-i l =
-    (l.p ≤ l.initial.j) × (l.initial.j ≤ l.q) × (l.j + l.p ≡ l.initial.j + l.bytes) × (length l.i ≡ length l.initial.bytes) ×
-    (sets l.i l.j (slice l.initial.j l.q l.text) ≡ sets l.initial.bytes l.bytes (slice l.p l.q l.text))
+    (l.p ≤ l.i) × (l.i ≤ l.q) × (l.j + l.p ≡ l.i + l.k) × (length l.bytes ≡ length l.initial.bytes) ×
+    (sets l.bytes l.j (slice l.i l.q l.text) ≡ sets l.initial.bytes l.k (slice l.p l.q l.text))
 
 abbrev pub decreases-loop-i : goal.decreases-loop-i
-decreases-loop-i l = l.q - l.initial.j
+decreases-loop-i l = l.q - l.i

@@ -9,8 +9,8 @@ use Rattle.dependency.proofs.run.Given as goal
 
 abbrev pub invariant-loop-p : goal.invariant-loop-p
 invariant-loop-p l =
-    Turn l.first_words l.first_bytes l.second_words l.second_bytes l.roots l.p.nodes l.p.definitions l.q.nodes l.q.definitions l.initial.flag l.count l.initial.count.place
-    l.initial.count.len l.initial.target l.target l.initial.marks l.marks l.list l.n l.initial.s l.s
+    Turn l.first_words l.first_bytes l.second_words l.second_bytes l.roots l.p.nodes l.p.definitions l.q.nodes l.q.definitions l.n l.count l.s.place
+    l.s.len l.initial.target l.initial.marks l.initial.flag l.initial.list l.target l.marks l.flag l.list
 
 abbrev pub decreases-loop-p : goal.decreases-loop-p
 decreases-loop-p l =

@@ -24,6 +24,8 @@ alike_front (some f) (some g) a = alike_next
 
 pub alike_step : {u v w : Tokens} {t : Token} → Alike u v → Follows u (t ∷ []) w → (x : Tokens) × Follows v (t ∷ []) x
 alike_step (alike_next {v = x}) (some none) = (x, some none)
+alike_step alike_end x = elim x [ ]
+alike_step alike_bad x = elim x [ ]
 
 -- what holds of the token in front, if there is one
 abbrev pub InFront : (Token → Type 0) → Tokens → Type 0

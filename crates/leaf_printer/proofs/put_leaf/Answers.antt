@@ -64,9 +64,9 @@ put-m-requires c =    let n = near_as c.args.at _ _ (text_8 c.args.words.now
     c.args.bytes.now c.args.i c.kind.result
     c.operand-x.result c.operand-y.result c.kind.ensures
     c.operand-x.ensures c.operand-y.ensures c.requires.tree c.requires.byte
-    c.requires.found c.in_default.rest.0.0.0.0.0.0.1 c.in_default.rest.0.0.0.0.0.1
-    c.in_default.rest.0.0.0.0.1 c.in_default.rest.0.0.0.1 c.in_default.rest.0.0.1
-    c.in_default.rest.0.1 c.in_default.rest.1) c.requires.near in
+    c.requires.found c.in_default.in_default-own.rest.0.0.0.0.0.0.1 c.in_default.in_default-own.rest.0.0.0.0.0.1
+    c.in_default.in_default-own.rest.0.0.0.0.1 c.in_default.in_default-own.rest.0.0.0.1 c.in_default.in_default-own.rest.0.0.1
+    c.in_default.in_default-own.rest.0.1 c.in_default.in_default-own.rest.1) c.requires.near in
     omega (
       arith,
       length-append (bytes "other.") (bytes_at c.args.bytes.now
@@ -79,9 +79,9 @@ put-requires-in_default c =    let n = near_as c.args.at _ _ (text_8 c.args.word
     c.args.bytes.now c.args.i c.kind.result
     c.operand-x.result c.operand-y.result c.kind.ensures
     c.operand-x.ensures c.operand-y.ensures c.requires.tree c.requires.byte
-    c.requires.found c.in_default.rest.0.0.0.0.0.0.1 c.in_default.rest.0.0.0.0.0.1
-    c.in_default.rest.0.0.0.0.1 c.in_default.rest.0.0.0.1 c.in_default.rest.0.0.1
-    c.in_default.rest.0.1 c.in_default.rest.1) c.requires.near in
+    c.requires.found c.in_default.in_default-own.rest.0.0.0.0.0.0.1 c.in_default.in_default-own.rest.0.0.0.0.0.1
+    c.in_default.in_default-own.rest.0.0.0.0.1 c.in_default.in_default-own.rest.0.0.0.1 c.in_default.in_default-own.rest.0.0.1
+    c.in_default.in_default-own.rest.0.1 c.in_default.in_default-own.rest.1) c.requires.near in
     let q = ap length c.part-in_default.ensures in
     omega (
       arith,
@@ -141,7 +141,7 @@ returns-in_default c =    λ e k h. puts_as (ap (◌++◌ (bytes "other.")) c.pa
     ∙ sym (text_8 c.args.words.now c.args.bytes.now c.args.i c.kind.result
     c.operand-x.result c.operand-y.result c.kind.ensures
     c.operand-x.ensures c.operand-y.ensures e k h
-    c.in_default.rest.0.0.0.0.0.0.1 c.in_default.rest.0.0.0.0.0.1
-    c.in_default.rest.0.0.0.0.1 c.in_default.rest.0.0.0.1 c.in_default.rest.0.0.1
-    c.in_default.rest.0.1 c.in_default.rest.1))
+    c.in_default.in_default-own.rest.0.0.0.0.0.0.1 c.in_default.in_default-own.rest.0.0.0.0.0.1
+    c.in_default.in_default-own.rest.0.0.0.0.1 c.in_default.in_default-own.rest.0.0.0.1 c.in_default.in_default-own.rest.0.0.1
+    c.in_default.in_default-own.rest.0.1 c.in_default.in_default-own.rest.1))
     (puts_join c.put-m.ensures c.put-in_default.ensures)

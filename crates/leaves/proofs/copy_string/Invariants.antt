@@ -12,8 +12,8 @@ use Rattle.leaves.proofs.copy_string.Given as goal
 
 abbrev pub invariant-loop-j : goal.invariant-loop-j
 invariant-loop-j l =
-    (l.bytes ≤ l.end) × (l.end ≤ l.bytes + l.n) × StringFrom l.text l.j (l.bytes + l.n - l.end) × (length l.initial.j ≡ length l.initial.bytes) × (sets
-    l.initial.j l.end (bytes_of (body_of (drop l.j l.text))) ≡ sets l.initial.bytes l.bytes (bytes_of (body_of (drop l.at l.text))))
+    (l.k ≤ l.j) × (l.j ≤ l.k + l.n) × StringFrom l.text l.i (l.k + l.n - l.j) × (length l.bytes ≡ length l.initial.bytes) × (sets
+    l.bytes l.j (bytes_of (body_of (drop l.i l.text))) ≡ sets l.initial.bytes l.k (bytes_of (body_of (drop l.at l.text))))
 
 abbrev pub decreases-loop-j : goal.decreases-loop-j
-decreases-loop-j l = l.bytes + l.n - l.end
+decreases-loop-j l = l.k + l.n - l.j

@@ -8,7 +8,7 @@ use native.Mathlib.Omega.{arith}
 use Rattle.lexemes.proofs.string_length.Given as goal
 
 abbrev pub invariant-loop-i : goal.invariant-loop-i
-invariant-loop-i l = (l.initial.n ≤ length l.s) × (l.n ≤ 2 * l.initial.n) × (l.n + length (escaped_all (drop l.initial.n l.s)) ≡ length (escaped_all l.s))
+invariant-loop-i l = (l.i ≤ length l.s) × (l.n ≤ 2 * l.i) × (l.n + length (escaped_all (drop l.i l.s)) ≡ length (escaped_all l.s))
 
 abbrev pub decreases-loop-i : goal.decreases-loop-i
-decreases-loop-i l = length l.s - l.initial.n
+decreases-loop-i l = length l.s - l.i

@@ -6,7 +6,7 @@ use Rattle.lexer.proofs.Laws.{Gone, gone_start, gone_byte, gone_close, gone_brok
 use Rattle.lexer.proofs.string_end.Given as goal
 
 abbrev pub invariant-loop-i : goal.invariant-loop-i
-invariant-loop-i l = (l.at + l.n ≤ l.initial.n) × (l.initial.n ≤ length l.text) × Gone l.text l.at l.initial.n l.n
+invariant-loop-i l = (l.at + l.n ≤ l.i) × (l.i ≤ length l.text) × Gone l.text l.at l.i l.n
 
 abbrev pub decreases-loop-i : goal.decreases-loop-i
-decreases-loop-i l = length l.text - l.initial.n
+decreases-loop-i l = length l.text - l.i

@@ -20,4 +20,4 @@ returns-in-3 c =    of_three c.args.second c.args.kind c.args.a c.args.b c.is_re
 
 pub returns-in_default : goal.returns-in_default
 returns-in_default c =    of_none c.args.second c.args.kind c.args.a c.args.b c.is_reference.ensures c.if-is_reference.false
-    c.arity.ensures c.in_default.rest c.constant_of.ensures
+    c.arity.ensures c.in_default.in_default-own.rest c.constant_of.ensures

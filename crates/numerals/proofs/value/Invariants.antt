@@ -9,7 +9,7 @@ use Rattle.numerals.proofs.value.Given as goal
 
 abbrev pub invariant-loop-i : goal.invariant-loop-i
 invariant-loop-i l =
-    (l.p ≤ l.initial.w) × (l.initial.w ≤ l.q) × (l.w ≤ largest_read) × (value_to l.w (slice l.initial.w l.q l.text) ≡ value_to l.v (slice l.p l.q l.text))
+    (l.p ≤ l.i) × (l.i ≤ l.q) × (l.w ≤ largest_read) × (value_to l.w (slice l.i l.q l.text) ≡ value_to l.v (slice l.p l.q l.text))
 
 abbrev pub decreases-loop-i : goal.decreases-loop-i
-decreases-loop-i l = l.q - l.initial.w
+decreases-loop-i l = l.q - l.i

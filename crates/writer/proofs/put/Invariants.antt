@@ -9,8 +9,8 @@ use Rattle.writer.proofs.put.Given as goal
 
 abbrev pub invariant-loop-i : goal.invariant-loop-i
 invariant-loop-i l =
-    (l.initial.m ≤ length l.bytes) × (l.m ≡ l.out + l.initial.m) × (length l.i ≡ length l.initial.out) ×
-    (sets l.i l.m (drop l.initial.m l.bytes) ≡ sets l.initial.out l.out l.bytes)
+    (l.i ≤ length l.bytes) × (l.m ≡ l.at + l.i) × (length l.out ≡ length l.initial.out) ×
+    (sets l.out l.m (drop l.i l.bytes) ≡ sets l.initial.out l.at l.bytes)
 
 abbrev pub decreases-loop-i : goal.decreases-loop-i
-decreases-loop-i l = length l.bytes - l.initial.m
+decreases-loop-i l = length l.bytes - l.i
