@@ -21,6 +21,9 @@ trivial = re.compile(r"^\(?\s*(?:λ c(?: κs)?\.\s*)?(?:search (?:rules|needs)|o
 
 
 class Function:
+    cycle = False
+    labels = ()
+
     def __init__(self, crate, name, entry, folder):
         self.crate, self.name, self.folder, self.e = crate, name, folder, entry
         self.steps, self.rows, self.clauses, self.callees = {}, [], {}, {}
@@ -93,7 +96,15 @@ class Function:
             return [best[1], best[2]] + rest
         if head == "pre":
             head, parts = "requires", ["requires"]
-        if head in ("args", "ranges", "requires", "lifetimes"):
+        if head == "requires":
+            if self.cycle and rest[:1] == ["0"]:
+                return ["decreases"] + rest[1:]
+            if self.cycle and rest[:1] == ["1"]:
+                rest = rest[1:]
+            if len(self.labels) > 1 and rest:
+                rest = self.clause_path(self.labels, rest)
+            return ["requires"] + rest
+        if head in ("args", "ranges", "lifetimes"):
             return [parts[0]] + rest
         if head not in self.steps:
             self.say(f"no step {parts[0]}")
@@ -262,6 +273,7 @@ def turn_file(crate, names, crate_dir, folder):
         print(f"left: {path}: no names")
         return
     fn = Function(crate, folder, names[key], path)
+    fn.labels = labels(crate_dir, folder.split("/")[-1])
     uses, heads, inv, ans, keep = [], [], [], [], []
     comment = []
     defs, aside, last_name = {}, [], None
@@ -410,6 +422,16 @@ def turn_file(crate, names, crate_dir, folder):
         print(line)
 
 
+def labels(crate_dir, name):
+    """The names of a function's `requires`, in order."""
+    text = open(os.path.join(crate_dir, "src", "lib.rt"), encoding="utf-8").read()
+    m = re.search(rf"\bfn {name}(?:<[^>]*>)?\(", text)
+    if not m:
+        return []
+    head = text[m.start() : text.find("\n{", m.start())]
+    return re.findall(r"(?m)^\s*requires (\w+) \{", head)
+
+
 def parameters(crate_dir, name):
     """The parameters of a function by their order in the source."""
     text = open(os.path.join(crate_dir, "src", "lib.rt"), encoding="utf-8").read()
@@ -423,6 +445,8 @@ def turn_cycle(crate, names, crate_dir, folder, new_folder):
     text = open(path, encoding="utf-8").read()
     entries = {k.split(".Lts-")[1]: e for k, e in names.items() if k.startswith(f"Rattle-{crate}-proofs.{folder}.Lts-")}
     fns = {norm(n): Function(crate, n, e, path) for n, e in entries.items()}
+    for n, it in fns.items():
+        it.cycle, it.labels = True, labels(crate_dir, n)
     many = len(fns) > 1
     uses, inv, ans, local, unfold, last, spec = [], [], [], [], {}, None, ""
     defs, order = {}, []

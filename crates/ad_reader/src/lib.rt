@@ -39,7 +39,6 @@ fn end_at(text: &[u8], at: usize, d: usize, n: usize) -> Answer
 }
 
 // Behind `[` or `;`: the closing bracket, or a definition. d definitions are stored, with n nodes and k bytes.
-#[cycle(read_behind_read_definitions)]
 #[cycle(definitions)]
 fn read_definitions(
     text: &[u8],
@@ -68,7 +67,6 @@ fn read_definitions(
 }
 
 // Behind a definition: `;` and more, or the closing bracket.
-#[cycle(read_behind_read_definitions)]
 #[cycle(definitions)]
 fn read_behind(
     text: &[u8],

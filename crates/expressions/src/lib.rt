@@ -51,7 +51,6 @@ fn unary_kind(o: Unary) -> u64
 }
 
 // A whole expression.
-#[cycle(read_arms_read_binary_read_conditional_read_primary_read_rest_read_unary)]
 #[cycle(expression)]
 pub fn read_conditional(
     text: &[u8],
@@ -74,7 +73,6 @@ pub fn read_conditional(
 }
 
 // Behind an operand: the arms of a conditional, where a `?` follows.
-#[cycle(read_arms_read_binary_read_conditional_read_primary_read_rest_read_unary)]
 #[cycle(expression)]
 fn read_arms(
     text: &[u8],
@@ -126,7 +124,6 @@ fn read_arms(
 }
 
 // Operands of operators that bind at `level` or tighter. Level 7 is a unary expression.
-#[cycle(read_arms_read_binary_read_conditional_read_primary_read_rest_read_unary)]
 #[cycle(expression)]
 fn read_binary(
     text: &[u8],
@@ -153,7 +150,6 @@ fn read_binary(
 }
 
 // Behind a left operand: the operators of the level that follow, which group to the left.
-#[cycle(read_arms_read_binary_read_conditional_read_primary_read_rest_read_unary)]
 #[cycle(expression)]
 fn read_rest(
     text: &[u8],
@@ -188,7 +184,6 @@ fn read_rest(
     }
 }
 
-#[cycle(read_arms_read_binary_read_conditional_read_primary_read_rest_read_unary)]
 #[cycle(expression)]
 fn read_unary(
     text: &[u8],
@@ -226,7 +221,6 @@ fn read_unary(
 }
 
 // A literal, a reference, or an expression in parentheses.
-#[cycle(read_arms_read_binary_read_conditional_read_primary_read_rest_read_unary)]
 #[cycle(expression)]
 fn read_primary(
     text: &[u8],

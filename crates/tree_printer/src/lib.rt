@@ -29,7 +29,6 @@ fn binding(words: &[u64], i: usize) -> usize
 }
 
 // Writes the tree whose last node is i.
-#[cycle(put_operand_put_tree)]
 #[cycle(tree)]
 pub fn put_tree(words: &[u64], bytes: &[u8], i: usize, out: &mut [u8], at: usize) -> usize
     requires { Fits printed words.now bytes.now i at }
@@ -61,7 +60,6 @@ pub fn put_tree(words: &[u64], bytes: &[u8], i: usize, out: &mut [u8], at: usize
 }
 
 // The same, in parentheses where it binds looser than need.
-#[cycle(put_operand_put_tree)]
 #[cycle(tree)]
 fn put_operand(
     words: &[u64],

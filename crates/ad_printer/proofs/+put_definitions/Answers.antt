@@ -13,10 +13,10 @@ returns-then-d-j t c =    none_written c.args.words.now c.args.bytes.now c.args.
 pub put_definition-m-requires : goal.put_definition-m-requires
 put_definition-m-requires t c =    row_fits c.args.words.now c.args.bytes.now c.args.j c.args.d
     (let h : c.args.j < c.args.d = omega (arith, c.if-d-j.false) in h) c.args.at
-    c.requires.1
+    c.requires
 
 pub overflow_add-next : goal.overflow_add-next
-overflow_add-next t c =    omega (arith, c.requires.1.few)
+overflow_add-next t c =    omega (arith, c.requires.few)
 
 pub returns-then-d-next : goal.returns-then-d-next
 returns-then-d-next t c =    one_row c.args.words.now c.args.bytes.now c.args.j c.args.d
@@ -28,16 +28,16 @@ unfolding bytes
 put-n-requires t c =    semicolon_near c.args.words.now c.args.bytes.now c.args.j c.args.d
     (let h : c.args.j < c.args.d = omega (arith, c.if-d-j.false) in h)
     (let h : c.args.j + 1 < c.args.d = omega (arith, c.if-d-next.false) in h) c.args.at _
-    _ _ c.requires.1 c.put_definition-m.ensures
+    _ _ c.requires c.put_definition-m.ensures
 
 pub put_definitions-requires : goal.put_definitions-requires
 unfolding bytes
 put_definitions-requires t c =    (
-      omega (arith, c.requires.0),
+      omega (arith, c.decreases),
       rest_fits c.args.words.now c.args.bytes.now c.args.j c.args.d
           (let h : c.args.j < c.args.d = omega (arith, c.if-d-j.false) in h) (let h :
           c.args.j + 1 < c.args.d = omega (arith, c.if-d-next.false) in
-          h) c.args.at _ c.put-n.result _ _ c.requires.1 c.put_definition-m.ensures
+          h) c.args.at _ c.put-n.result _ _ c.requires c.put_definition-m.ensures
           c.put-n.ensures.behind,
     )
 

@@ -9,14 +9,14 @@ use Prim.Native.Nat.{ℕ, ◌<◌}
 use Rattle.ad_reader.proofs.+definitions.Goals as goal
 
 pub read_behind-symbol_at-requires : goal.read_behind-symbol_at-requires
-read_behind-symbol_at-requires t c = c.requires.1.place
+read_behind-symbol_at-requires t c = c.requires.place
 
 pub read_behind-read_definitions-requires : goal.read_behind-read_definitions-requires
 read_behind-read_definitions-requires t c =    let g = (rw c.in-Here.is at c.symbol_at.ensures) in
-    omega (arith, c.requires.0)
+    omega (arith, c.decreases)
 
 pub read_behind-symbol_at-requires-in-Absent : goal.read_behind-symbol_at-requires-in-Absent
-read_behind-symbol_at-requires-in-Absent t c =    c.requires.1.place
+read_behind-symbol_at-requires-in-Absent t c =    c.requires.place
 
 pub read_behind-end_at-requires : goal.read_behind-end_at-requires
 read_behind-end_at-requires t c =    (rw c.in-Here-symbol_at.is at c.symbol_at-in-Absent.ensures).high
@@ -42,13 +42,13 @@ read_behind-returns-in-Absent-symbol_at t c =    behind_none c.args.text.now c.a
     (rw c.in-Absent-symbol_at.is at c.symbol_at-in-Absent.ensures)
 
 pub read_definitions-symbol_at-requires : goal.read_definitions-symbol_at-requires
-read_definitions-symbol_at-requires t c = c.requires.1.place
+read_definitions-symbol_at-requires t c = c.requires.place
 
 pub read_definitions-end_at-requires : goal.read_definitions-end_at-requires
 read_definitions-end_at-requires t c =    (rw c.in-Here.is at c.symbol_at.ensures).high
 
 pub read_definitions-word_at-requires : goal.read_definitions-word_at-requires
-read_definitions-word_at-requires t c =    c.requires.1.place
+read_definitions-word_at-requires t c =    c.requires.place
 
 pub read_definitions-read_definition-requires : goal.read_definitions-read_definition-requires
 read_definitions-read_definition-requires t c =    let p = (rw c.in-Here-word_at.is at
@@ -67,7 +67,7 @@ read_definitions-read_behind-requires t c =    let p = (rw c.in-Here-word_at.is 
     c.args.words.now = c.read_definition.auto.1.1.1.1.1.1.0 in
     let l2 : length c.read_definition.new.bytes ≡ length
     c.args.bytes.now = c.read_definition.auto.1.1.1.1.1.1.1.0 in
-    omega (arith, c.requires.0)
+    omega (arith, c.decreases)
 
 pub read_definitions-returns-in-Here : goal.read_definitions-returns-in-Here
 read_definitions-returns-in-Here t c =    definitions_close c.args.text.now c.args.at c.args.d (mark c.args.n c.args.k)

@@ -8,13 +8,13 @@ use borrow.Author.Rules.{rules}
 use Rattle.dependency.proofs.run.Goals as goal
 
 pub overflow_add-p : goal.overflow_add-p
-overflow_add-p c =    let h = nodes_fit c.requires.0.0 in
-    let k = nodes_fit c.requires.0.1 in
+overflow_add-p c =    let h = nodes_fit c.requires.ads.0 in
+    let k = nodes_fit c.requires.ads.1 in
     search rules
 
 pub loop-p-init : goal.loop-p-init
-loop-p-init c =    turn_first c.args.first_bytes.now c.args.second_bytes.now c.requires.0.0
-    c.requires.0.1 c.requires.0.2 c.requires.1.0 c.requires.1.1 refl c.first_position-s.ensures.0
+loop-p-init c =    turn_first c.args.first_bytes.now c.args.second_bytes.now c.requires.ads.0
+    c.requires.ads.1 c.requires.ads.2 c.requires.ready.0 c.requires.ready.1 refl c.first_position-s.ensures.0
     c.first_position-s.ensures.1
 
 pub shape_of-target-then-ended : goal.shape_of-target-then-ended
@@ -34,7 +34,7 @@ returns-then-ended c =    turn_end c.loop-p.invariant c.ended.ensures c.if-ended
 
 pub transition-s-requires : goal.transition-s-requires
 transition-s-requires c = record {
-      ads = (c.requires.0.0, c.requires.0.1, c.requires.0.2, c.requires.0.3);
+      ads = (c.requires.ads.0, c.requires.ads.1, c.requires.ads.2, c.requires.ads.3);
       room = (c.loop-p.invariant.going.roomy, turn_fits c.loop-p.invariant c.ended.ensures c.if-ended.false);
     }
 

@@ -11,10 +11,10 @@ slice_bounds-roots-end c =    sym (length-take-le _ _ (omega arith))
 pub run-t-requires : goal.run-t-requires
 run-t-requires c = record {
       ads = (
-        c.requires.0.0,
-        c.requires.0.1,
+        c.requires.ads.0,
+        c.requires.ads.1,
         c.list_roots-n.ensures.roots_after ∙ roots_listed c.find_roots-r.ensures,
         c.fingerprints.ensures,
       );
-      ready = (c.requires.1, refl);
+      ready = (c.requires.ready, refl);
     }

@@ -14,7 +14,7 @@ use Prim.Native.Nat.{ℕ, ◌<◌}
 use Rattle.expressions.proofs.+expression.Goals as goal
 
 pub read_arms-symbol_at-requires : goal.read_arms-symbol_at-requires
-read_arms-symbol_at-requires t c = c.requires.1.1.place
+read_arms-symbol_at-requires t c = c.requires.1.place
 
 pub read_arms-returns-then-depth-ge64 : goal.read_arms-returns-then-depth-ge64
 read_arms-returns-then-depth-ge64 t c = record {
@@ -28,7 +28,7 @@ read_arms-returns-then-depth-ge64 t c = record {
 pub read_arms-overflow_add-n : goal.read_arms-overflow_add-n
 read_arms-overflow_add-n t c =    omega (
       arith,
-      c.requires.1.1.fits,
+      c.requires.1.fits,
     )
 
 pub read_arms-returns-then-n-begun-ge-NODES : goal.read_arms-returns-then-n-begun-ge-NODES
@@ -47,12 +47,12 @@ pub read_arms-overflow_add-begun : goal.read_arms-overflow_add-begun
 read_arms-overflow_add-begun t c =    omega (
       arith,
       c.if-n-begun-ge-NODES.false,
-      c.requires.1.1.fits,
+      c.requires.1.fits,
     )
 
 pub read_arms-read_conditional-requires : goal.read_arms-read_conditional-requires
 read_arms-read_conditional-requires t c =    let g = (rw c.in-Here.is at c.symbol_at.ensures) in
-    omega (arith, c.requires.0, c.if-n-begun-ge-NODES.false)
+    omega (arith, c.decreases, c.if-n-begun-ge-NODES.false)
 
 pub read_arms-symbol_at-requires-in-Done : goal.read_arms-symbol_at-requires-in-Done
 read_arms-symbol_at-requires-in-Done t c =    (rw c.in-Done.is at
@@ -77,10 +77,10 @@ read_arms-read_conditional-requires-in-Here-symbol_at t c =    let g = (rw c.in-
     c.args.words.now = c.read_conditional.auto.1.1.1.1.1.1.0 in
     let l2 : length c.read_conditional.new.bytes ≡ length
     c.args.bytes.now = c.read_conditional.auto.1.1.1.1.1.1.1.0 in
-    omega (arith, c.requires.0)
+    omega (arith, c.decreases)
 
 pub read_arms-overflow_sub-n : goal.read_arms-overflow_sub-n
-read_arms-overflow_sub-n t c =    c.requires.1.0
+read_arms-overflow_sub-n t c =    c.requires.0
 
 pub read_arms-overflow_sub-m : goal.read_arms-overflow_sub-m
 read_arms-overflow_sub-m t c =    (rw c.in-Done.is at
@@ -110,11 +110,11 @@ pub read_arms-returns-in-Absent : goal.read_arms-returns-in-Absent
 read_arms-returns-in-Absent t c = record {
       within = record {
         low = omega arith;
-        high = c.requires.1.1.place;
+        high = c.requires.1.place;
         grows = omega arith;
-        some = c.requires.1.0;
-        fits = c.requires.1.1.fits;
-        short = c.requires.1.1.short;
+        some = c.requires.0;
+        fits = c.requires.1.fits;
+        short = c.requires.1.short;
         fewer = omega arith;
       };
       exact = arms_stop c.args.text.now c.args.at c.args.depth (mark c.args.n c.args.k) c.args.begun
@@ -197,14 +197,14 @@ read_arms-returns-in-Done-read_conditional t c =     let g = (rw c.in-Here.is at
     }
 
 pub read_binary-read_unary-requires : goal.read_binary-read_unary-requires
-read_binary-read_unary-requires t c =    omega (arith, c.requires.0, c.requires.1)
+read_binary-read_unary-requires t c =    omega (arith, c.decreases, c.requires)
 
 pub read_binary-returns-then-level-ge7 : goal.read_binary-returns-then-level-ge7
 read_binary-returns-then-level-ge7 t c = record {
       within = c.read_unary.ensures.within;
       exact = binary_unary c.args.text.now c.args.at c.args.depth (mark c.args.n c.args.k)
           c.args.begun (memory c.args.words.now c.args.bytes.now) c.args.level _
-          c.read_unary.result c.if-level-ge7.true c.requires.1.0
+          c.read_unary.result c.if-level-ge7.true c.requires.0
           c.read_unary.ensures.exact;
     }
 
@@ -212,7 +212,7 @@ pub read_binary-overflow_add-level : goal.read_binary-overflow_add-level
 read_binary-overflow_add-level t c = omega (arith, c.if-level-ge7.false)
 
 pub read_binary-read_binary-requires : goal.read_binary-read_binary-requires
-read_binary-read_binary-requires t c =    omega (arith, c.requires.0, c.requires.1, c.if-level-ge7.false)
+read_binary-read_binary-requires t c =    omega (arith, c.decreases, c.requires, c.if-level-ge7.false)
 
 pub read_binary-read_rest-requires : goal.read_binary-read_rest-requires
 read_binary-read_rest-requires t c =    let i = (rw c.in-Done.is at c.read_binary.ensures.within) in
@@ -220,7 +220,7 @@ read_binary-read_rest-requires t c =    let i = (rw c.in-Done.is at c.read_binar
     c.args.words.now = c.read_binary.auto.1.1.1.1.1.1.1.0 in
     let l2 : length c.read_binary.new.bytes ≡ length
     c.args.bytes.now = c.read_binary.auto.1.1.1.1.1.1.1.1.0 in
-    omega (arith, c.requires.0, c.requires.1.0, c.if-level-ge7.false)
+    omega (arith, c.decreases, c.requires.0, c.if-level-ge7.false)
 
 pub read_binary-returns-in-Refused : goal.read_binary-returns-in-Refused
 read_binary-returns-in-Refused t c = record {
@@ -249,7 +249,7 @@ read_binary-returns-in-Done t c =     let i = (rw c.in-Done.is at c.read_binary.
     }
 
 pub read_conditional-read_binary-requires : goal.read_conditional-read_binary-requires
-read_conditional-read_binary-requires t c =    omega (arith, c.requires.0, c.requires.1)
+read_conditional-read_binary-requires t c =    omega (arith, c.decreases, c.requires)
 
 pub read_conditional-read_arms-requires : goal.read_conditional-read_arms-requires
 read_conditional-read_arms-requires t c =    let i = (rw c.in-Done.is at c.read_binary.ensures.within) in
@@ -257,7 +257,7 @@ read_conditional-read_arms-requires t c =    let i = (rw c.in-Done.is at c.read_
     c.args.words.now = c.read_binary.auto.1.1.1.1.1.1.1.0 in
     let l2 : length c.read_binary.new.bytes ≡ length
     c.args.bytes.now = c.read_binary.auto.1.1.1.1.1.1.1.1.0 in
-    omega (arith, c.requires.0)
+    omega (arith, c.decreases)
 
 pub read_conditional-returns-in-Refused : goal.read_conditional-returns-in-Refused
 read_conditional-returns-in-Refused t c = record {
@@ -285,7 +285,7 @@ read_conditional-returns-in-Done t c =     let i = (rw c.in-Done.is at c.read_bi
     }
 
 pub read_primary-leaf_at-requires : goal.read_primary-leaf_at-requires
-read_primary-leaf_at-requires t c = c.requires.1
+read_primary-leaf_at-requires t c = c.requires
 
 pub read_primary-returns-then-depth-ge64 : goal.read_primary-returns-then-depth-ge64
 read_primary-returns-then-depth-ge64 t c =     let i = (rw c.in-Open.is at c.leaf_at.ensures.within) in
@@ -307,7 +307,7 @@ read_primary-read_conditional-requires t c =    let i = (rw c.in-Open.is at c.le
     c.leaf_at.auto.1.1.1.1.1.0 in
     let l2 : length c.leaf_at.new.bytes ≡ length c.args.bytes.now =
     c.leaf_at.auto.1.1.1.1.1.1.0 in
-    omega (arith, c.requires.0)
+    omega (arith, c.decreases)
 
 pub read_primary-symbol_at-requires : goal.read_primary-symbol_at-requires
 read_primary-symbol_at-requires t c =    (rw c.in-Done-read_conditional.is at
@@ -388,10 +388,10 @@ read_primary-returns-in-Here t c =     let i = (rw c.in-Open.is at c.leaf_at.ens
     }
 
 pub read_rest-binary_at-requires : goal.read_rest-binary_at-requires
-read_rest-binary_at-requires t c = c.requires.1.1.1.place
+read_rest-binary_at-requires t c = c.requires.1.1.place
 
 pub read_rest-overflow_add-n : goal.read_rest-overflow_add-n
-read_rest-overflow_add-n t c = omega (arith, c.requires.1.1.1.fits)
+read_rest-overflow_add-n t c = omega (arith, c.requires.1.1.fits)
 
 pub read_rest-returns-then-n-begun-ge-NODES : goal.read_rest-returns-then-n-begun-ge-NODES
 read_rest-returns-then-n-begun-ge-NODES t c =     let g = (rw c.in-Here.is at c.binary_at.ensures) in
@@ -403,17 +403,17 @@ read_rest-returns-then-n-begun-ge-NODES t c =     let g = (rw c.in-Here.is at c.
     }
 
 pub read_rest-overflow_add-level : goal.read_rest-overflow_add-level
-read_rest-overflow_add-level t c =    omega (arith, c.requires.1.0)
+read_rest-overflow_add-level t c =    omega (arith, c.requires.0)
 
 pub read_rest-overflow_add-begun : goal.read_rest-overflow_add-begun
 read_rest-overflow_add-begun t c = omega (arith, c.if-n-begun-ge-NODES.false)
 
 pub read_rest-read_binary-requires : goal.read_rest-read_binary-requires
 read_rest-read_binary-requires t c =    let g = (rw c.in-Here.is at c.binary_at.ensures) in
-    omega (arith, c.requires.0, c.requires.1.0, c.if-n-begun-ge-NODES.false)
+    omega (arith, c.decreases, c.requires.0, c.if-n-begun-ge-NODES.false)
 
 pub read_rest-overflow_sub-n : goal.read_rest-overflow_sub-n
-read_rest-overflow_sub-n t c =    c.requires.1.1.0
+read_rest-overflow_sub-n t c =    c.requires.1.0
 
 pub read_rest-overflow_sub-m : goal.read_rest-overflow_sub-m
 read_rest-overflow_sub-m t c =    (rw c.in-Done.is at
@@ -443,8 +443,8 @@ read_rest-read_rest-requires t c =    let g = (rw c.in-Here.is at c.binary_at.en
     c.read_binary.new.words = c.store_node.auto.0 in
     omega (
       arith,
+      c.decreases,
       c.requires.0,
-      c.requires.1.0,
       c.if-n-begun-ge-NODES.false,
       g.1.low,
       g.1.wide,
@@ -454,11 +454,11 @@ pub read_rest-returns-in-Absent : goal.read_rest-returns-in-Absent
 read_rest-returns-in-Absent t c = record {
       within = record {
         low = omega arith;
-        high = c.requires.1.1.1.place;
+        high = c.requires.1.1.place;
         grows = omega arith;
-        some = c.requires.1.1.0;
-        fits = c.requires.1.1.1.fits;
-        short = c.requires.1.1.1.short;
+        some = c.requires.1.0;
+        fits = c.requires.1.1.fits;
+        short = c.requires.1.1.short;
         fewer = omega arith;
       };
       exact = rest_stop c.args.text.now c.args.at c.args.depth (mark c.args.n c.args.k) c.args.begun
@@ -499,10 +499,10 @@ read_rest-returns-in-Done t c =     let g = (rw c.in-Here.is at c.binary_at.ensu
     }
 
 pub read_unary-unary_at-requires : goal.read_unary-unary_at-requires
-read_unary-unary_at-requires t c = c.requires.1.place
+read_unary-unary_at-requires t c = c.requires.place
 
 pub read_unary-read_primary-requires : goal.read_unary-read_primary-requires
-read_unary-read_primary-requires t c =    omega (arith, c.requires.0, c.requires.1)
+read_unary-read_primary-requires t c =    omega (arith, c.decreases, c.requires)
 
 pub read_unary-returns-then-depth-ge64 : goal.read_unary-returns-then-depth-ge64
 read_unary-returns-then-depth-ge64 t c = record {
@@ -514,7 +514,7 @@ read_unary-returns-then-depth-ge64 t c = record {
     }
 
 pub read_unary-overflow_add-n : goal.read_unary-overflow_add-n
-read_unary-overflow_add-n t c = omega (arith, c.requires.1.fits)
+read_unary-overflow_add-n t c = omega (arith, c.requires.fits)
 
 pub read_unary-returns-then-n-begun-ge-NODES : goal.read_unary-returns-then-n-begun-ge-NODES
 read_unary-returns-then-n-begun-ge-NODES t c = record {
@@ -533,7 +533,7 @@ read_unary-overflow_add-begun t c = omega (arith, c.if-n-begun-ge-NODES.false)
 
 pub read_unary-read_unary-requires : goal.read_unary-read_unary-requires
 read_unary-read_unary-requires t c =    let g = (rw c.in-Here.is at c.unary_at.ensures) in
-    omega (arith, c.requires.0, c.if-n-begun-ge-NODES.false)
+    omega (arith, c.decreases, c.if-n-begun-ge-NODES.false)
 
 pub read_unary-overflow_sub-m : goal.read_unary-overflow_sub-m
 read_unary-overflow_sub-m t c =    (rw c.in-Done.is at

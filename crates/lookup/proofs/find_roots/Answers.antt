@@ -4,34 +4,34 @@ use Rattle.lookup.proofs.find_roots.Goals as goal
 
 pub find_name-i-requires : goal.find_name-i-requires
 find_name-i-requires c =    (
-      c.requires.0.0.formed,
-      c.requires.0.0.definitions_are,
-      c.requires.1.first_printed,
-      c.requires.1.prints_room,
+      c.requires.ads.0.formed,
+      c.requires.ads.0.definitions_are,
+      c.requires.prints.first_printed,
+      c.requires.prints.prints_room,
     )
 
 pub find_name-j-requires : goal.find_name-j-requires
 find_name-j-requires c =    (
-      c.requires.0.1.formed,
-      c.requires.0.1.definitions_are,
-      c.requires.1.second_printed,
-      c.requires.1.prints_room,
+      c.requires.ads.1.formed,
+      c.requires.ads.1.definitions_are,
+      c.requires.prints.second_printed,
+      c.requires.prints.prints_room,
     )
 
 pub find_name-k-requires : goal.find_name-k-requires
 find_name-k-requires c =    (
-      c.requires.0.0.formed,
-      c.requires.0.0.definitions_are,
-      c.requires.1.first_printed,
-      c.requires.1.prints_room,
+      c.requires.ads.0.formed,
+      c.requires.ads.0.definitions_are,
+      c.requires.prints.first_printed,
+      c.requires.prints.prints_room,
     )
 
 pub find_name-l-requires : goal.find_name-l-requires
 find_name-l-requires c =    (
-      c.requires.0.1.formed,
-      c.requires.0.1.definitions_are,
-      c.requires.1.second_printed,
-      c.requires.1.prints_room,
+      c.requires.ads.1.formed,
+      c.requires.ads.1.definitions_are,
+      c.requires.prints.second_printed,
+      c.requires.prints.prints_room,
     )
 
 pub returns : goal.returns

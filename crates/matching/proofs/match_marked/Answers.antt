@@ -7,21 +7,21 @@ use Rattle.matching.proofs.match_marked.Goals as goal
 
 pub run-steps-requires : goal.run-steps-requires
 run-steps-requires c =    at_run c.args.first_words.now c.args.first_bytes.now c.args.second_words.now
-    c.args.second_bytes.now c.requires.0.0.formed c.requires.0.1.formed
-    c.traverse-t.ensures.traversed (omega arith) (omega arith) (clear_long c.requires.1.1.1)
+    c.args.second_bytes.now c.requires.ads.0.formed c.requires.ads.1.formed
+    c.traverse-t.ensures.traversed (omega arith) (omega arith) (clear_long c.requires.room.1)
 
 pub returns-then-steps-t : goal.returns-then-steps-t
 returns-then-steps-t c =    match_of c.args.first_words.now c.args.first_bytes.now c.args.second_words.now
-    c.args.second_bytes.now c.requires.0.0.formed c.requires.0.1.formed
-    c.traverse-t.ensures.traversed c.requires.1.1.1 c.run-steps.ensures
+    c.args.second_bytes.now c.requires.ads.0.formed c.requires.ads.1.formed
+    c.traverse-t.ensures.traversed c.requires.room.1 c.run-steps.ensures
     (omega arith)
-    c.traverse-t.ensures.roots (λ c.requires.1.1.0. refl) (λ c.requires.1.1.0. absurd (omega arith))
+    c.traverse-t.ensures.roots (λ c.requires.room.0. refl) (λ c.requires.room.0. absurd (omega arith))
 
 pub returns : goal.returns
 returns c =    match_of c.args.first_words.now c.args.first_bytes.now c.args.second_words.now
-    c.args.second_bytes.now c.requires.0.0.formed c.requires.0.1.formed
-    c.traverse-t.ensures.traversed c.requires.1.1.1 c.run-steps.ensures
+    c.args.second_bytes.now c.requires.ads.0.formed c.requires.ads.1.formed
+    c.traverse-t.ensures.traversed c.requires.room.1 c.run-steps.ensures
     (omega arith)
-    c.traverse-t.ensures.roots (λ c.requires.1.1.0. absurd (omega arith)) (λ c.requires.1.1.0 i. Finished
+    c.traverse-t.ensures.roots (λ c.requires.room.0. absurd (omega arith)) (λ c.requires.room.0 i. Finished
     (c.conclude-answer.ensures.verdict i) (c.conclude-answer.ensures.ranks.0 i) (c.conclude-answer.ensures.ranks.1 i)
     c.run-steps.result c.traverse-t.result.count)

@@ -4,33 +4,33 @@ use borrow.Author.Rules.{rules}
 use Rattle.transitions.proofs.inside.Goals as goal
 
 pub followed-i-requires : goal.followed-i-requires
-followed-i-requires c =    (c.requires.0.2, c.requires.1.0.marks_room_lem)
+followed-i-requires c =    (c.requires.ads.2, c.requires.room.0.marks_room_lem)
 
 pub need_count-requires : goal.need_count-requires
 need_count-requires c =    (
-      c.requires.0.0,
-      c.requires.0.1,
-      c.requires.0.2,
-      small_in c.requires.0.2 c.requires.1.0.target_room,
-      small_in c.requires.0.2 c.requires.1.0.flag_room,
+      c.requires.ads.0,
+      c.requires.ads.1,
+      c.requires.ads.2,
+      small_in c.requires.ads.2 c.requires.room.0.target_room,
+      small_in c.requires.ads.2 c.requires.room.0.flag_room,
     )
 
 pub led_to-y-requires : goal.led_to-y-requires
 led_to-y-requires c =    (
-      c.requires.0.0,
-      c.requires.0.1,
-      c.requires.0.2,
-      small_in c.requires.0.2 c.requires.1.0.target_room,
+      c.requires.ads.0,
+      c.requires.ads.1,
+      c.requires.ads.2,
+      small_in c.requires.ads.2 c.requires.room.0.target_room,
       λ b d. need_in _ b _ d c.args.x _ _ c.args.target.now c.args.marks.now
           c.args.flag.now (c.need_count.ensures.by_index b d) c.followed-i.ensures c.if-i-need_count.true,
     )
 
 pub follow-requires : goal.follow-requires
 follow-requires c =    (
-      c.requires.0.2,
+      c.requires.ads.2,
       c.led_to-y.ensures.small,
       (omega arith),
-      c.requires.1.0.marks_room_lem,
+      c.requires.room.0.marks_room_lem,
     )
 
 pub returns-then-i-need_count : goal.returns-then-i-need_count
@@ -42,10 +42,10 @@ returns-then-i-need_count c = record {
     }
 
 pub entered_from-f-requires : goal.entered_from-f-requires
-entered_from-f-requires c =    (c.requires.0.2, c.requires.1.0.marks_room_lem)
+entered_from-f-requires c =    (c.requires.ads.2, c.requires.room.0.marks_room_lem)
 
 pub leave-requires : goal.leave-requires
-leave-requires c =    (omega arith, c.requires.0.2, c.requires.1.1)
+leave-requires c =    (omega arith, c.requires.ads.2, c.requires.room.1)
 
 pub returns : goal.returns
 returns c = record {

@@ -7,10 +7,10 @@ use Prim.Native.Nat.{ℕ, ◌<◌}
 use Rattle.tree_check.proofs.+visit.Goals as goal
 
 pub shape_at-requires : goal.shape_at-requires
-shape_at-requires t c = (c.requires.1.node, c.requires.1.words)
+shape_at-requires t c = (c.requires.node, c.requires.words)
 
 pub leaf_walk-requires : goal.leaf_walk-requires
-leaf_walk-requires t c =    (c.requires.1.node, c.requires.1.words, c.requires.1.byte, c.requires.1.bytes)
+leaf_walk-requires t c =    (c.requires.node, c.requires.words, c.requires.byte, c.requires.bytes)
 
 pub visit-requires : goal.visit-requires
 visit-requires t c =    let q = one_order c.args.words.now c.args.bytes.now c.args.s c.args.i c.args.o
@@ -18,8 +18,8 @@ visit-requires t c =    let q = one_order c.args.words.now c.args.bytes.now c.ar
     ∙ c.in-One.is) in (
       omega arith,
       part_room c.args.words.now c.args.bytes.now c.args.s c.args.i c.args.o c.args.s
-          c.in-One.x c.args.o c.requires.1 q.0 (omega arith)
-          c.requires.1.byte,
+          c.in-One.x c.args.o c.requires q.0 (omega arith)
+          c.requires.byte,
     )
 
 pub unary_walk-requires : goal.unary_walk-requires
@@ -27,8 +27,8 @@ unary_walk-requires t c =    let q = one_order c.args.words.now c.args.bytes.now
     c.in-One.x (sym c.shape_at.ensures ∙ c.in-One.is) in
     let z = walk_small c.args.words.now c.args.bytes.now c.args.s c.in-One.x
     c.args.o _ _ _ _ (part_room c.args.words.now c.args.bytes.now c.args.s c.args.i c.args.o
-    c.args.s c.in-One.x c.args.o c.requires.1 q.0 (omega arith)
-    c.requires.1.byte) (rw c.in-Tree.is at
+    c.args.s c.in-One.x c.args.o c.requires q.0 (omega arith)
+    c.requires.byte) (rw c.in-Tree.is at
     c.visit.ensures) in
     (z.1, z.2)
 
@@ -38,15 +38,15 @@ visit-requires-in-Two t c =    let q = two_order c.args.words.now c.args.bytes.n
     (sym c.shape_at.ensures ∙ c.in-Two.is) in (
       omega arith,
       part_room c.args.words.now c.args.bytes.now c.args.s c.args.i c.args.o c.args.s
-          c.in-Two.x c.args.o c.requires.1 q.0 (omega arith)
-          c.requires.1.byte,
+          c.in-Two.x c.args.o c.requires q.0 (omega arith)
+          c.requires.byte,
     )
 
 pub overflow_add-x : goal.overflow_add-x
 overflow_add-x t c =    let q = two_order c.args.words.now c.args.bytes.now c.args.s
     c.args.i c.args.o c.in-Two.x c.in-Two.y
     (sym c.shape_at.ensures ∙ c.in-Two.is) in
-    omega (arith, c.requires.1.node)
+    omega (arith, c.requires.node)
 
 pub visit-requires-in-Tree-visit : goal.visit-requires-in-Tree-visit
 visit-requires-in-Tree-visit t c =    let q = two_order c.args.words.now c.args.bytes.now c.args.s c.args.i c.args.o
@@ -54,28 +54,28 @@ visit-requires-in-Tree-visit t c =    let q = two_order c.args.words.now c.args.
     (sym c.shape_at.ensures ∙ c.in-Two.is) in
     let z = walk_small c.args.words.now c.args.bytes.now c.args.s c.in-Two.x
     c.args.o _ _ _ _ (part_room c.args.words.now c.args.bytes.now c.args.s c.args.i c.args.o
-    c.args.s c.in-Two.x c.args.o c.requires.1 q.0 (omega arith)
-    c.requires.1.byte) (rw c.in-Tree-visit.is at
+    c.args.s c.in-Two.x c.args.o c.requires q.0 (omega arith)
+    c.requires.byte) (rw c.in-Tree-visit.is at
     c.visit-in-Two.ensures) in (
       omega arith,
       (part_room c.args.words.now c.args.bytes.now c.args.s c.args.i c.args.o
           (c.in-Two.x + 1) c.in-Two.y c.in-Tree-visit.p
-          c.requires.1 (omega arith) (omega arith) z.0),
+          c.requires (omega arith) (omega arith) z.0),
     )
 
 pub kind-requires : goal.kind-requires
-kind-requires t c =    (c.requires.1.node, c.requires.1.words)
+kind-requires t c =    (c.requires.node, c.requires.words)
 
 pub binary_walk-requires : goal.binary_walk-requires
 binary_walk-requires t c =    let q = two_order c.args.words.now c.args.bytes.now c.args.s c.args.i c.args.o c.in-Two.x
     c.in-Two.y (sym c.shape_at.ensures ∙ c.in-Two.is) in
     let z = walk_small c.args.words.now c.args.bytes.now c.args.s c.in-Two.x c.args.o _ _ _ _ (part_room c.args.words.now
-    c.args.bytes.now c.args.s c.args.i c.args.o c.args.s c.in-Two.x c.args.o c.requires.1 q.0
-    (omega arith) c.requires.1.byte)
+    c.args.bytes.now c.args.s c.args.i c.args.o c.args.s c.in-Two.x c.args.o c.requires q.0
+    (omega arith) c.requires.byte)
     (rw c.in-Tree-visit.is at c.visit-in-Two.ensures) in
     let y = walk_small c.args.words.now c.args.bytes.now (c.in-Two.x + 1) c.in-Two.y c.in-Tree-visit.p
     _ _ _ _ (part_room c.args.words.now c.args.bytes.now c.args.s c.args.i c.args.o (c.in-Two.x + 1)
-    c.in-Two.y c.in-Tree-visit.p c.requires.1 (omega arith) (omega arith) z.0)
+    c.in-Two.y c.in-Tree-visit.p c.requires (omega arith) (omega arith) z.0)
     (rw c.in-Tree-visit-2.is at c.visit-in-Tree-visit.ensures) in
     (z.1, z.2, y.1, y.2)
 
@@ -85,14 +85,14 @@ visit-requires-in-Three t c =    let q = three_order c.args.words.now c.args.byt
     (sym c.shape_at.ensures ∙ c.in-Three.is) in (
       omega arith,
       part_room c.args.words.now c.args.bytes.now c.args.s c.args.i c.args.o c.args.s
-          c.in-Three.x c.args.o c.requires.1 q.0 (omega arith) c.requires.1.byte,
+          c.in-Three.x c.args.o c.requires q.0 (omega arith) c.requires.byte,
     )
 
 pub overflow_add-x-in-Tree-visit-3 : goal.overflow_add-x-in-Tree-visit-3
 overflow_add-x-in-Tree-visit-3 t c =    let q = three_order c.args.words.now c.args.bytes.now c.args.s
     c.args.i c.args.o c.in-Three.x c.in-Three.y
     c.in-Three.z (sym c.shape_at.ensures ∙ c.in-Three.is) in
-    omega (arith, c.requires.1.node)
+    omega (arith, c.requires.node)
 
 pub visit-requires-in-Tree-visit-3 : goal.visit-requires-in-Tree-visit-3
 visit-requires-in-Tree-visit-3 t c =    let q = three_order c.args.words.now c.args.bytes.now c.args.s c.args.i c.args.o
@@ -100,49 +100,49 @@ visit-requires-in-Tree-visit-3 t c =    let q = three_order c.args.words.now c.a
     (sym c.shape_at.ensures ∙ c.in-Three.is) in
     let z = walk_small c.args.words.now c.args.bytes.now c.args.s c.in-Three.x
     c.args.o _ _ _ _ (part_room c.args.words.now c.args.bytes.now c.args.s c.args.i c.args.o
-    c.args.s c.in-Three.x c.args.o c.requires.1 q.0 (omega arith)
-    c.requires.1.byte) (rw c.in-Tree-visit-3.is at
+    c.args.s c.in-Three.x c.args.o c.requires q.0 (omega arith)
+    c.requires.byte) (rw c.in-Tree-visit-3.is at
     c.visit-in-Three.ensures) in (
       omega arith,
       (part_room c.args.words.now c.args.bytes.now c.args.s c.args.i c.args.o
           (c.in-Three.x + 1) c.in-Three.y c.in-Tree-visit-3.p
-          c.requires.1 (omega arith) (omega arith) z.0),
+          c.requires (omega arith) (omega arith) z.0),
     )
 
 pub overflow_add-y : goal.overflow_add-y
 overflow_add-y t c =    let q = three_order c.args.words.now c.args.bytes.now c.args.s
     c.args.i c.args.o c.in-Three.x c.in-Three.y
     c.in-Three.z (sym c.shape_at.ensures ∙ c.in-Three.is) in
-    omega (arith, c.requires.1.node)
+    omega (arith, c.requires.node)
 
 pub visit-requires-in-Tree-visit-4 : goal.visit-requires-in-Tree-visit-4
 visit-requires-in-Tree-visit-4 t c =    let q = three_order c.args.words.now c.args.bytes.now c.args.s c.args.i c.args.o c.in-Three.x c.in-Three.y
     c.in-Three.z (sym c.shape_at.ensures ∙ c.in-Three.is) in
     let z = walk_small c.args.words.now c.args.bytes.now c.args.s c.in-Three.x c.args.o _ _ _ _ (part_room c.args.words.now c.args.bytes.now c.args.s c.args.i
-    c.args.o c.args.s c.in-Three.x c.args.o c.requires.1 q.0 (omega arith) c.requires.1.byte)
+    c.args.o c.args.s c.in-Three.x c.args.o c.requires q.0 (omega arith) c.requires.byte)
     (rw c.in-Tree-visit-3.is at c.visit-in-Three.ensures) in
     let y = walk_small c.args.words.now c.args.bytes.now (c.in-Three.x + 1) c.in-Three.y c.in-Tree-visit-3.p
     _ _ _ _ (part_room c.args.words.now c.args.bytes.now c.args.s c.args.i c.args.o (c.in-Three.x + 1) c.in-Three.y
-    c.in-Tree-visit-3.p c.requires.1 (omega arith) (omega arith) z.0)
+    c.in-Tree-visit-3.p c.requires (omega arith) (omega arith) z.0)
     (rw c.in-Tree-visit-4.is at c.visit-in-Tree-visit-3.ensures) in (
       omega arith,
       (part_room c.args.words.now c.args.bytes.now c.args.s c.args.i c.args.o (c.in-Three.y + 1) c.in-Three.z
-          c.in-Tree-visit-4.q c.requires.1 (omega arith) (omega arith) y.0),
+          c.in-Tree-visit-4.q c.requires (omega arith) (omega arith) y.0),
     )
 
 pub conditional_walk-requires : goal.conditional_walk-requires
 conditional_walk-requires t c =    let q = three_order c.args.words.now c.args.bytes.now c.args.s c.args.i c.args.o c.in-Three.x c.in-Three.y
     c.in-Three.z (sym c.shape_at.ensures ∙ c.in-Three.is) in
     let z = walk_small c.args.words.now c.args.bytes.now c.args.s c.in-Three.x c.args.o _ _ _ _ (part_room c.args.words.now c.args.bytes.now c.args.s c.args.i c.args.o
-    c.args.s c.in-Three.x c.args.o c.requires.1 q.0 (omega arith) c.requires.1.byte)
+    c.args.s c.in-Three.x c.args.o c.requires q.0 (omega arith) c.requires.byte)
     (rw c.in-Tree-visit-3.is at c.visit-in-Three.ensures) in
     let y = walk_small c.args.words.now c.args.bytes.now (c.in-Three.x + 1) c.in-Three.y c.in-Tree-visit-3.p _ _
     _ _ (part_room c.args.words.now c.args.bytes.now c.args.s c.args.i c.args.o (c.in-Three.x + 1) c.in-Three.y
-    c.in-Tree-visit-3.p c.requires.1 (omega arith) (omega arith) z.0)
+    c.in-Tree-visit-3.p c.requires (omega arith) (omega arith) z.0)
     (rw c.in-Tree-visit-4.is at c.visit-in-Tree-visit-3.ensures) in
     let m = walk_small c.args.words.now c.args.bytes.now (c.in-Three.y + 1) c.in-Three.z
     c.in-Tree-visit-4.q _ _ _ _ (part_room c.args.words.now c.args.bytes.now c.args.s c.args.i c.args.o (c.in-Three.y + 1)
-    c.in-Three.z c.in-Tree-visit-4.q c.requires.1 (omega arith) (omega arith) y.0)
+    c.in-Three.z c.in-Tree-visit-4.q c.requires (omega arith) (omega arith) y.0)
     (rw c.in-Tree-visit-5.is at c.visit-in-Tree-visit-4.ensures) in
     (z.1, z.2, y.1, y.2, m.1, m.2)
 
@@ -152,7 +152,7 @@ returns-in-Nothing t c =    way_nothing c.args.words.now c.args.bytes.now c.args
 
 pub returns-in-Leaf : goal.returns-in-Leaf
 returns-in-Leaf t c =    way_leaf c.args.words.now c.args.bytes.now c.args.s c.args.i
-    c.args.o c.leaf_walk.result c.requires.1.order
+    c.args.o c.leaf_walk.result c.requires.order
     (sym c.shape_at.ensures ∙ c.in-Leaf.is)
     c.leaf_walk.ensures
 

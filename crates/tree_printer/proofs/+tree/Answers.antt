@@ -19,8 +19,8 @@ use Rattle.tree_printer.proofs.+tree.Goals as goal
 
 pub put_operand-binding-requires : goal.put_operand-binding-requires
 put_operand-binding-requires t c = (
-  c.requires.1.node,
-  c.requires.1.words,
+  c.requires.node,
+  c.requires.words,
 )
 
 pub put_operand-put_tree-requires : goal.put_operand-put_tree-requires
@@ -28,7 +28,7 @@ put_operand-put_tree-requires t c =    (
       omega arith,
       bare_fits c.args.words.now c.args.bytes.now c.args.i
           c.args.at c.args.need c.binding.result c.binding.ensures
-          c.if-need-binding.true c.requires.1,
+          c.if-need-binding.true c.requires,
     )
 
 pub put_operand-returns-then-need-binding : goal.put_operand-returns-then-need-binding
@@ -39,7 +39,7 @@ put_operand-returns-then-need-binding t c =    bare_written c.args.words.now c.a
 pub put_operand-overflow_add-at : goal.put_operand-overflow_add-at
 put_operand-overflow_add-at t c =    let h = closed_near c.args.words.now c.args.bytes.now c.args.i
     c.args.at c.args.need c.binding.result
-    c.binding.ensures c.if-need-binding.false c.requires.1 in
+    c.binding.ensures c.if-need-binding.false c.requires in
     omega arith
 
 pub put_operand-put_tree-m-requires : goal.put_operand-put_tree-m-requires
@@ -47,13 +47,13 @@ put_operand-put_tree-m-requires t c =    (
       omega arith,
       closed_fits c.args.words.now c.args.bytes.now c.args.i
           c.args.at c.args.need c.binding.result
-          c.binding.ensures c.if-need-binding.false c.requires.1,
+          c.binding.ensures c.if-need-binding.false c.requires,
     )
 
 pub put_operand-overflow_add-result : goal.put_operand-overflow_add-result
 put_operand-overflow_add-result t c =    let h = closed_behind c.args.words.now c.args.bytes.now c.args.i
     c.args.at c.args.need c.binding.result
-    c.binding.ensures c.if-need-binding.false c.requires.1 _ _ _
+    c.binding.ensures c.if-need-binding.false c.requires _ _ _
     c.put_tree-m.ensures in
     omega arith
 
@@ -64,37 +64,37 @@ put_operand-returns t c =    closed_written c.args.words.now c.args.bytes.now c.
 
 pub put_tree-kind-k-requires : goal.put_tree-kind-k-requires
 put_tree-kind-k-requires t c = (
-  c.requires.1.node,
-  c.requires.1.words,
+  c.requires.node,
+  c.requires.words,
 )
 
 pub put_tree-put_leaf-requires : goal.put_tree-put_leaf-requires
 put_tree-put_leaf-requires t c =    leaf_fits c.args.words.now c.args.bytes.now c.args.i c.args.at
-    [] (rw c.kind-k.ensures at c.if-k-lt9.true) c.requires.1
+    [] (rw c.kind-k.ensures at c.if-k-lt9.true) c.requires
 
 pub put_tree-returns-then-k-lt9 : goal.put_tree-returns-then-k-lt9
 put_tree-returns-then-k-lt9 t c =    leaf_written c.args.words.now c.args.bytes.now c.args.i c.args.at _
     (rw c.kind-k.ensures at c.if-k-lt9.true) _ _ c.put_leaf.ensures
 
 pub put_tree-operand-x-requires : goal.put_tree-operand-x-requires
-put_tree-operand-x-requires t c =    (c.requires.1.node, omega arith, c.requires.1.words)
+put_tree-operand-x-requires t c =    (c.requires.node, omega arith, c.requires.words)
 
 pub put_tree-put_unary-m-requires : goal.put_tree-put_unary-m-requires
 put_tree-put_unary-m-requires t c =    rw (c.unary_of.ensures ∙ ap unary_of c.kind-k.ensures) (one_near
     c.args.words.now c.args.bytes.now c.args.i c.args.at []
     (rw c.kind-k.ensures at c.if-k-lt9.false)
-    (rw c.kind-k.ensures at c.if-k-lt12.true) c.requires.1)
+    (rw c.kind-k.ensures at c.if-k-lt12.true) c.requires)
 
 pub put_tree-put_operand-requires : goal.put_tree-put_operand-requires
 put_tree-put_operand-requires t c =    (
       let h = one_falls c.args.words.now c.args.bytes.now c.args.i c.args.at []
           (rw c.kind-k.ensures at c.if-k-lt9.false)
-          (rw c.kind-k.ensures at c.if-k-lt12.true) c.requires.1 in
-          omega (arith, ap (tree_size c.args.words.now) c.operand-x.ensures, c.requires.0),
+          (rw c.kind-k.ensures at c.if-k-lt12.true) c.requires in
+          omega (arith, ap (tree_size c.args.words.now) c.operand-x.ensures, c.decreases),
       fits_as c.args.words.now c.args.bytes.now 7 7 c.operand-x.result (operand_at c.args.words.now c.args.i 0)
           c.put_unary-m.result refl c.operand-x.ensures (one_fits_lem c.args.words.now c.args.bytes.now
           c.args.i c.args.at [] (rw c.kind-k.ensures at c.if-k-lt9.false)
-          (rw c.kind-k.ensures at c.if-k-lt12.true) c.requires.1 c.put_unary-m.result
+          (rw c.kind-k.ensures at c.if-k-lt12.true) c.requires c.put_unary-m.result
           (c.put_unary-m.ensures.behind
           ∙ ap (λ (u : Unary). c.args.at + length (unary_text u))
           (c.unary_of.ensures ∙ ap unary_of c.kind-k.ensures))),
@@ -110,26 +110,26 @@ put_tree-returns-then-k-lt12 t c =    one_written c.args.words.now c.args.bytes.
     c.operand-x.ensures c.put_operand.ensures)
 
 pub put_tree-operand-y-requires : goal.put_tree-operand-y-requires
-put_tree-operand-y-requires t c =    (c.requires.1.node, omega arith, c.requires.1.words)
+put_tree-operand-y-requires t c =    (c.requires.node, omega arith, c.requires.words)
 
 pub put_tree-operand-z-requires : goal.put_tree-operand-z-requires
-put_tree-operand-z-requires t c =    (c.requires.1.node, omega arith, c.requires.1.words)
+put_tree-operand-z-requires t c =    (c.requires.node, omega arith, c.requires.words)
 
 pub put_tree-put_operand-m-requires : goal.put_tree-put_operand-m-requires
 put_tree-put_operand-m-requires t c =    (
       let h = three_falls c.args.words.now c.args.bytes.now c.args.i c.args.at c.args.out.now
-          (sym c.kind-k.ensures ∙ c.if-k-eq12.true) c.requires.1 in
-          omega (arith, ap (tree_size c.args.words.now) c.operand-x.ensures, c.requires.0),
+          (sym c.kind-k.ensures ∙ c.if-k-eq12.true) c.requires in
+          omega (arith, ap (tree_size c.args.words.now) c.operand-x.ensures, c.decreases),
       fits_as c.args.words.now c.args.bytes.now 1 1 c.operand-x.result (operand_at c.args.words.now c.args.i 0)
           c.args.at refl c.operand-x.ensures (three_fits_lem c.args.words.now c.args.bytes.now c.args.i
-          c.args.at c.args.out.now (sym c.kind-k.ensures ∙ c.if-k-eq12.true) c.requires.1),
+          c.args.at c.args.out.now (sym c.kind-k.ensures ∙ c.if-k-eq12.true) c.requires),
     )
 
 pub put_tree-put-n-requires : goal.put_tree-put-n-requires
 unfolding bytes
 put_tree-put-n-requires t c =    three_near c.args.words.now c.args.bytes.now c.args.i c.args.at c.args.out.now
     (sym c.kind-k.ensures ∙ c.if-k-eq12.true)
-    c.requires.1 _ _ (written_as c.args.words.now c.args.bytes.now _ _ 1 1
+    c.requires _ _ (written_as c.args.words.now c.args.bytes.now _ _ 1 1
     c.operand-x.result (operand_at c.args.words.now c.args.i 0) _ _ refl
     c.operand-x.ensures c.put_operand-m.ensures)
 
@@ -137,12 +137,12 @@ pub put_tree-put_tree-p-requires : goal.put_tree-put_tree-p-requires
 unfolding bytes
 put_tree-put_tree-p-requires t c =    (
       let h = three_falls c.args.words.now c.args.bytes.now c.args.i c.args.at c.args.out.now
-          (sym c.kind-k.ensures ∙ c.if-k-eq12.true) c.requires.1 in
-          omega (arith, ap (tree_size c.args.words.now) c.operand-y.ensures, c.requires.0),
+          (sym c.kind-k.ensures ∙ c.if-k-eq12.true) c.requires in
+          omega (arith, ap (tree_size c.args.words.now) c.operand-y.ensures, c.decreases),
       tree_fits_as c.args.words.now c.args.bytes.now c.operand-y.result
           (operand_at c.args.words.now c.args.i 1) c.put-n.result c.operand-y.ensures
           (three_second c.args.words.now c.args.bytes.now c.args.i c.args.at c.args.out.now
-          (sym c.kind-k.ensures ∙ c.if-k-eq12.true) c.requires.1 _ _ (written_as c.args.words.now
+          (sym c.kind-k.ensures ∙ c.if-k-eq12.true) c.requires _ _ (written_as c.args.words.now
           c.args.bytes.now _ _ 1 1 c.operand-x.result (operand_at c.args.words.now c.args.i 0) _ _ refl
           c.operand-x.ensures c.put_operand-m.ensures) c.put-n.result
           c.put-n.ensures.behind),
@@ -151,7 +151,7 @@ put_tree-put_tree-p-requires t c =    (
 pub put_tree-put-q-requires : goal.put_tree-put-q-requires
 unfolding bytes
 put_tree-put-q-requires t c =    three_near_2 c.args.words.now c.args.bytes.now c.args.i c.args.at c.args.out.now
-    (sym c.kind-k.ensures ∙ c.if-k-eq12.true) c.requires.1 _ _ (written_as
+    (sym c.kind-k.ensures ∙ c.if-k-eq12.true) c.requires _ _ (written_as
     c.args.words.now c.args.bytes.now _ _ 1 1 c.operand-x.result (operand_at c.args.words.now c.args.i 0) _ _ refl
     c.operand-x.ensures c.put_operand-m.ensures) _ _ c.put-n.result
     c.put_tree-p.result c.put-n.ensures.behind (tree_written_as c.args.words.now c.args.bytes.now _ _
@@ -162,11 +162,11 @@ pub put_tree-put_tree-requires : goal.put_tree-put_tree-requires
 unfolding bytes
 put_tree-put_tree-requires t c =    (
       let h = three_falls c.args.words.now c.args.bytes.now c.args.i c.args.at c.args.out.now
-          (sym c.kind-k.ensures ∙ c.if-k-eq12.true) c.requires.1 in
-          omega (arith, ap (tree_size c.args.words.now) c.operand-z.ensures, c.requires.0),
+          (sym c.kind-k.ensures ∙ c.if-k-eq12.true) c.requires in
+          omega (arith, ap (tree_size c.args.words.now) c.operand-z.ensures, c.decreases),
       tree_fits_as c.args.words.now c.args.bytes.now c.operand-z.result (operand_at c.args.words.now c.args.i 2)
           c.put-q.result c.operand-z.ensures (three_third c.args.words.now c.args.bytes.now c.args.i c.args.at
-          c.args.out.now (sym c.kind-k.ensures ∙ c.if-k-eq12.true) c.requires.1 _ _
+          c.args.out.now (sym c.kind-k.ensures ∙ c.if-k-eq12.true) c.requires _ _
           (written_as c.args.words.now c.args.bytes.now _ _ 1 1 c.operand-x.result (operand_at c.args.words.now c.args.i 0) _ _
           refl c.operand-x.ensures c.put_operand-m.ensures) _ _ c.put-n.result
           c.put_tree-p.result c.put-n.ensures.behind (tree_written_as c.args.words.now c.args.bytes.now _ _
@@ -191,15 +191,15 @@ pub put_tree-put_operand-m-requires-2 : goal.put_tree-put_operand-m-requires-2
 put_tree-put_operand-m-requires-2 t c =    (
       let h = two_falls c.args.words.now c.args.bytes.now c.args.i c.args.at c.args.out.now (above c.args.words.now c.args.i
           (rw c.kind-k.ensures at c.if-k-lt12.false) (λ z. c.if-k-eq12.false (c.kind-k.ensures ∙ z)))
-          c.requires.1 in
-          omega (arith, ap (tree_size c.args.words.now) c.operand-x.ensures, c.requires.0),
+          c.requires in
+          omega (arith, ap (tree_size c.args.words.now) c.operand-x.ensures, c.decreases),
       fits_as c.args.words.now c.args.bytes.now c.binds-need.result
           (binds_of (binary_of (kind_at c.args.words.now c.args.i))) c.operand-x.result (operand_at c.args.words.now c.args.i 0)
           c.args.at (c.binds-need.ensures
           ∙ ap binds_of (c.binary_of-j.ensures ∙ ap binary_of c.kind-k.ensures))
           c.operand-x.ensures (two_fits c.args.words.now c.args.bytes.now c.args.i c.args.at
           c.args.out.now (above c.args.words.now c.args.i (rw c.kind-k.ensures at c.if-k-lt12.false)
-          (λ z. c.if-k-eq12.false (c.kind-k.ensures ∙ z))) c.requires.1),
+          (λ z. c.if-k-eq12.false (c.kind-k.ensures ∙ z))) c.requires),
     )
 
 pub put_tree-put_binary-n-requires : goal.put_tree-put_binary-n-requires
@@ -207,7 +207,7 @@ put_tree-put_binary-n-requires t c =    rw (c.binary_of-j.ensures ∙ ap binary_
     c.args.bytes.now c.args.i c.args.at c.args.out.now (above c.args.words.now c.args.i
     (rw c.kind-k.ensures at c.if-k-lt12.false)
     (λ z. c.if-k-eq12.false (c.kind-k.ensures ∙ z)))
-    c.requires.1 _ _ (written_as c.args.words.now c.args.bytes.now _ _
+    c.requires _ _ (written_as c.args.words.now c.args.bytes.now _ _
     c.binds-need.result (binds_of (binary_of (kind_at c.args.words.now c.args.i))) c.operand-x.result
     (operand_at c.args.words.now c.args.i 0) _ _ (c.binds-need.ensures
     ∙ ap binds_of (c.binary_of-j.ensures ∙ ap binary_of c.kind-k.ensures))
@@ -221,15 +221,15 @@ pub put_tree-put_operand-requires-2 : goal.put_tree-put_operand-requires-2
 put_tree-put_operand-requires-2 t c =    (
       let h = two_falls c.args.words.now c.args.bytes.now c.args.i c.args.at c.args.out.now (above c.args.words.now c.args.i
           (rw c.kind-k.ensures at c.if-k-lt12.false)
-          (λ z. c.if-k-eq12.false (c.kind-k.ensures ∙ z))) c.requires.1 in
-          omega (arith, ap (tree_size c.args.words.now) c.operand-y.ensures, c.requires.0),
+          (λ z. c.if-k-eq12.false (c.kind-k.ensures ∙ z))) c.requires in
+          omega (arith, ap (tree_size c.args.words.now) c.operand-y.ensures, c.decreases),
       fits_as c.args.words.now c.args.bytes.now (c.binds-need.result + 1)
           (binds_of (binary_of (kind_at c.args.words.now c.args.i)) + 1) c.operand-y.result (operand_at c.args.words.now c.args.i 1)
           c.put_binary-n.result (ap (λ (u : ℕ). u + 1) (c.binds-need.ensures
           ∙ ap binds_of (c.binary_of-j.ensures ∙ ap binary_of c.kind-k.ensures)))
           c.operand-y.ensures (two_second c.args.words.now c.args.bytes.now c.args.i c.args.at
           c.args.out.now (above c.args.words.now c.args.i (rw c.kind-k.ensures at c.if-k-lt12.false)
-          (λ z. c.if-k-eq12.false (c.kind-k.ensures ∙ z))) c.requires.1 _ _ (written_as
+          (λ z. c.if-k-eq12.false (c.kind-k.ensures ∙ z))) c.requires _ _ (written_as
           c.args.words.now c.args.bytes.now _ _ c.binds-need.result (binds_of (binary_of (kind_at c.args.words.now c.args.i)))
           c.operand-x.result (operand_at c.args.words.now c.args.i 0) _ _ (c.binds-need.ensures
           ∙ ap binds_of (c.binary_of-j.ensures ∙ ap binary_of c.kind-k.ensures))

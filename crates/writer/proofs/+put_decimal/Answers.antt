@@ -6,7 +6,7 @@ use Prim.Native.Nat.{ℕ, ◌<◌}
 use Rattle.writer.proofs.+put_decimal.Goals as goal
 
 pub overflow_add-result : goal.overflow_add-result
-overflow_add-result t c =    let h = near_one c.args.v c.args.at c.if-v-lt10.true c.requires.1 in
+overflow_add-result t c =    let h = near_one c.args.v c.args.at c.if-v-lt10.true c.requires in
     omega arith
 
 pub returns-then-v-lt10 : goal.returns-then-v-lt10
@@ -16,12 +16,12 @@ returns-then-v-lt10 t c =    decimal_puts_one _ _ c.args.at c.args.v _
 pub put_decimal-m-requires : goal.put_decimal-m-requires
 put_decimal-m-requires t c =    (
       omega arith,
-      near_decimal c.args.v c.args.at c.if-v-lt10.false c.requires.1,
+      near_decimal c.args.v c.args.at c.if-v-lt10.false c.requires,
     )
 
 pub overflow_add-result-2 : goal.overflow_add-result-2
 overflow_add-result-2 t c =    let h = near_decimal_last c.args.v c.args.at _ c.if-v-lt10.false
-    c.requires.1 c.put_decimal-m.ensures.behind in
+    c.requires c.put_decimal-m.ensures.behind in
     omega arith
 
 pub returns : goal.returns

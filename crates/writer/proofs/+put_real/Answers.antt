@@ -7,10 +7,10 @@ use Rattle.writer.proofs.+put_real.Goals as goal
 
 pub put_decimal-m-requires : goal.put_decimal-m-requires
 put_decimal-m-requires t c =    (near_whole c.args.v c.args.places c.args.at 0 c.if-places-eq0.true
-    c.requires.1).0
+    c.requires).0
 
 pub overflow_add-result : goal.overflow_add-result
-overflow_add-result t c =    let h = (near_whole c.args.v c.args.places c.args.at _ c.if-places-eq0.true c.requires.1).1
+overflow_add-result t c =    let h = (near_whole c.args.v c.args.places c.args.at _ c.if-places-eq0.true c.requires).1
     c.put_decimal-m.ensures.behind in
     omega arith
 
@@ -22,11 +22,11 @@ pub put_real-m-requires : goal.put_real-m-requires
 put_real-m-requires t c =    (
       omega arith,
       (near_real c.args.v c.args.places c.args.at 0 c.if-places-eq0.false
-          c.requires.1).0,
+          c.requires).0,
     )
 
 pub overflow_add-result-2 : goal.overflow_add-result-2
-overflow_add-result-2 t c =    let h = (near_real c.args.v c.args.places c.args.at _ c.if-places-eq0.false c.requires.1).1
+overflow_add-result-2 t c =    let h = (near_real c.args.v c.args.places c.args.at _ c.if-places-eq0.false c.requires).1
     c.put_real-m.ensures.behind in
     omega arith
 
