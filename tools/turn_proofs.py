@@ -111,11 +111,13 @@ class Function:
             return [parts[0]] + rest
         step = self.steps[head]
         callee = self.callees.get(head)
-        if rest and rest[0] == "new" and len(rest) > 1 and rest[1] in "01" and callee in self.e["params"]:
+        if rest and rest[0] in ("last", "kept") and len(rest) > 1 and rest[1] in "01":
+            rest = [{"last": "new", "kept": "auto"}[rest[0]]] + rest[1:]
+        if rest and rest[0] in ("new", "auto") and len(rest) > 1 and rest[1] in "01" and callee in self.e["params"]:
             i, at = 1, 0
             while i < len(rest) and rest[i] == "1":
                 i, at = i + 1, at + 1
-            rest = ["new", self.e["params"][callee][at]] + rest[i + 1 :]
+            rest = [rest[0], self.e["params"][callee][at]] + rest[i + 1 :]
         if rest and rest[0] == "ensures" and head in self.clauses and len(rest) > 1:
             rest = ["ensures"] + self.clause_path(self.clauses[head], rest[1:])
         return [step] + [norm(p) if i == 1 and rest[0] == "new" else p for i, p in enumerate(rest)]

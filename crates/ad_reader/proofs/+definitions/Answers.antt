@@ -64,9 +64,9 @@ pub read_definitions-read_behind-requires : goal.read_definitions-read_behind-re
 read_definitions-read_behind-requires t c =    let p = (rw c.in-Here-word_at.is at c.word_at.ensures) in
     let i = (rw c.in-Done.is at c.read_definition.ensures.within) in
     let l1 : length c.read_definition.new.words ≡ length
-    c.args.words.now = c.read_definition.auto.1.1.1.1.1.1.0 in
+    c.args.words.now = c.read_definition.auto.words in
     let l2 : length c.read_definition.new.bytes ≡ length
-    c.args.bytes.now = c.read_definition.auto.1.1.1.1.1.1.1.0 in
+    c.args.bytes.now = c.read_definition.auto.bytes in
     omega (arith, c.decreases)
 
 pub read_definitions-returns-in-Here : goal.read_definitions-returns-in-Here

@@ -47,7 +47,7 @@ overflow_add-k c =    omega (arith, c.requires.0, c.requires.1.0)
 pub read_conditional-requires : goal.read_conditional-requires
 read_conditional-requires c =    let g = (rw c.in-Here.is at c.symbol_at.ensures) in
     let lc : length c.copy.new.bytes ≡ length c.args.bytes.now =
-    c.copy.auto.1.1.1.0 in
+    c.copy.auto.bytes in
     omega (arith, c.requires.0, c.requires.1.0)
 
 pub overflow_sub-q-in-Done : goal.overflow_sub-q-in-Done
@@ -62,7 +62,7 @@ overflow_sub-m c =    (rw c.in-Done.is at
 
 pub store_definition-requires : goal.store_definition-requires
 store_definition-requires c =    let l1 : length c.read_conditional.new.words ≡ length
-    c.args.words.now = c.read_conditional.auto.1.1.1.1.1.1.0 in
+    c.args.words.now = c.read_conditional.auto.words in
     omega (arith, c.if-d-ge-DEFINITIONS.left)
 
 pub returns-in-Absent : goal.returns-in-Absent

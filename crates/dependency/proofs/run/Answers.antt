@@ -48,7 +48,7 @@ loop-p-smaller c =    let h = turn_small c.loop-p.inv c.ended.ensures c.if-ended
 
 pub loop-p-preserved : goal.loop-p-preserved
 loop-p-preserved c =    turn_next c.loop-p.invariant c.ended.ensures c.if-ended.false c.transition-s.ensures
-    c.transition-s.auto.1.1.1.1.1.1.1.1.1.0
-    c.transition-s.auto.1.1.1.1.1.1.1.1.1.1.0
-    c.transition-s.auto.1.1.1.1.1.1.1.1.1.1.1.0
-    c.transition-s.auto.1.1.1.1.1.1.1.1.1.1.1.1.0
+    c.transition-s.auto.target
+    c.transition-s.auto.marks
+    c.transition-s.auto.flag
+    c.transition-s.auto.list

@@ -74,9 +74,9 @@ read_arms-read_conditional-requires-in-Here-symbol_at t c =    let g = (rw c.in-
     let i = (rw c.in-Done.is at c.read_conditional.ensures.within) in
     let d = (rw c.in-Here-symbol_at.is at c.symbol_at-in-Done.ensures) in
     let l1 : length c.read_conditional.new.words ≡ length
-    c.args.words.now = c.read_conditional.auto.1.1.1.1.1.1.0 in
+    c.args.words.now = c.read_conditional.auto.words in
     let l2 : length c.read_conditional.new.bytes ≡ length
-    c.args.bytes.now = c.read_conditional.auto.1.1.1.1.1.1.1.0 in
+    c.args.bytes.now = c.read_conditional.auto.bytes in
     omega (arith, c.decreases)
 
 pub read_arms-overflow_sub-n : goal.read_arms-overflow_sub-n
@@ -92,13 +92,13 @@ read_arms-overflow_sub-z t c =    (rw c.in-Done-read_conditional.is at
 
 pub read_arms-store_node-requires : goal.read_arms-store_node-requires
 read_arms-store_node-requires t c =    let j = (rw c.in-Done-read_conditional.is at c.read_conditional-in-Here-symbol_at.ensures.within) in
-    let l1 : length c.read_conditional.last.1.1.1.1.1.1.0 ≡ length c.args.words.now =
-    c.read_conditional.kept.1.1.1.1.1.1.0 in
-    let l2 : length c.read_conditional.last.1.1.1.1.1.1.1.0 ≡ length
-    c.args.bytes.now = c.read_conditional.kept.1.1.1.1.1.1.1.0 in
+    let l1 : length c.read_conditional.new.words ≡ length c.args.words.now =
+    c.read_conditional.auto.words in
+    let l2 : length c.read_conditional.new.bytes ≡ length
+    c.args.bytes.now = c.read_conditional.auto.bytes in
     let l3 : length c.read_conditional-in-Here-symbol_at.new.words ≡ length
-    c.read_conditional.last.1.1.1.1.1.1.0 =
-    c.read_conditional-in-Here-symbol_at.auto.1.1.1.1.1.1.0 in
+    c.read_conditional.new.words =
+    c.read_conditional-in-Here-symbol_at.auto.words in
     omega arith
 
 pub read_arms-overflow_add-result : goal.read_arms-overflow_add-result
@@ -217,9 +217,9 @@ read_binary-read_binary-requires t c =    omega (arith, c.decreases, c.requires,
 pub read_binary-read_rest-requires : goal.read_binary-read_rest-requires
 read_binary-read_rest-requires t c =    let i = (rw c.in-Done.is at c.read_binary.ensures.within) in
     let l1 : length c.read_binary.new.words ≡ length
-    c.args.words.now = c.read_binary.auto.1.1.1.1.1.1.1.0 in
+    c.args.words.now = c.read_binary.auto.words in
     let l2 : length c.read_binary.new.bytes ≡ length
-    c.args.bytes.now = c.read_binary.auto.1.1.1.1.1.1.1.1.0 in
+    c.args.bytes.now = c.read_binary.auto.bytes in
     omega (arith, c.decreases, c.requires.0, c.if-level-ge7.false)
 
 pub read_binary-returns-in-Refused : goal.read_binary-returns-in-Refused
@@ -254,9 +254,9 @@ read_conditional-read_binary-requires t c =    omega (arith, c.decreases, c.requ
 pub read_conditional-read_arms-requires : goal.read_conditional-read_arms-requires
 read_conditional-read_arms-requires t c =    let i = (rw c.in-Done.is at c.read_binary.ensures.within) in
     let l1 : length c.read_binary.new.words ≡ length
-    c.args.words.now = c.read_binary.auto.1.1.1.1.1.1.1.0 in
+    c.args.words.now = c.read_binary.auto.words in
     let l2 : length c.read_binary.new.bytes ≡ length
-    c.args.bytes.now = c.read_binary.auto.1.1.1.1.1.1.1.1.0 in
+    c.args.bytes.now = c.read_binary.auto.bytes in
     omega (arith, c.decreases)
 
 pub read_conditional-returns-in-Refused : goal.read_conditional-returns-in-Refused
@@ -304,9 +304,9 @@ read_primary-overflow_add-depth t c = omega (arith, c.if-depth-ge64.false)
 pub read_primary-read_conditional-requires : goal.read_primary-read_conditional-requires
 read_primary-read_conditional-requires t c =    let i = (rw c.in-Open.is at c.leaf_at.ensures.within) in
     let l1 : length c.leaf_at.new.words ≡ length c.args.words.now =
-    c.leaf_at.auto.1.1.1.1.1.0 in
+    c.leaf_at.auto.words in
     let l2 : length c.leaf_at.new.bytes ≡ length c.args.bytes.now =
-    c.leaf_at.auto.1.1.1.1.1.1.0 in
+    c.leaf_at.auto.bytes in
     omega (arith, c.decreases)
 
 pub read_primary-symbol_at-requires : goal.read_primary-symbol_at-requires
@@ -422,9 +422,9 @@ read_rest-overflow_sub-m t c =    (rw c.in-Done.is at
 pub read_rest-store_node-requires : goal.read_rest-store_node-requires
 read_rest-store_node-requires t c =    let i = (rw c.in-Done.is at c.read_binary.ensures.within) in
     let l1 : length c.read_binary.new.words ≡ length c.args.words.now =
-    c.read_binary.auto.1.1.1.1.1.1.1.0 in
+    c.read_binary.auto.words in
     let l2 : length c.read_binary.new.bytes ≡ length c.args.bytes.now =
-    c.read_binary.auto.1.1.1.1.1.1.1.1.0 in
+    c.read_binary.auto.bytes in
     omega arith
 
 pub read_rest-overflow_add-m : goal.read_rest-overflow_add-m
@@ -436,11 +436,11 @@ pub read_rest-read_rest-requires : goal.read_rest-read_rest-requires
 read_rest-read_rest-requires t c =    let g = (rw c.in-Here.is at c.binary_at.ensures) in
     let i = (rw c.in-Done.is at c.read_binary.ensures.within) in
     let l1 : length c.read_binary.new.words ≡ length
-    c.args.words.now = c.read_binary.auto.1.1.1.1.1.1.1.0 in
+    c.args.words.now = c.read_binary.auto.words in
     let l2 : length c.read_binary.new.bytes ≡ length
-    c.args.bytes.now = c.read_binary.auto.1.1.1.1.1.1.1.1.0 in
+    c.args.bytes.now = c.read_binary.auto.bytes in
     let l3 : length c.store_node.new.words ≡ length
-    c.read_binary.new.words = c.store_node.auto.0 in
+    c.read_binary.new.words = c.store_node.auto.words in
     omega (
       arith,
       c.decreases,
@@ -542,9 +542,9 @@ read_unary-overflow_sub-m t c =    (rw c.in-Done.is at
 pub read_unary-store_node-requires : goal.read_unary-store_node-requires
 read_unary-store_node-requires t c =    let i = (rw c.in-Done.is at c.read_unary.ensures.within) in
     let l1 : length c.read_unary.new.words ≡ length c.args.words.now =
-    c.read_unary.auto.1.1.1.1.1.1.0 in
+    c.read_unary.auto.words in
     let l2 : length c.read_unary.new.bytes ≡ length c.args.bytes.now =
-    c.read_unary.auto.1.1.1.1.1.1.1.0 in
+    c.read_unary.auto.bytes in
     omega arith
 
 pub read_unary-overflow_add-result : goal.read_unary-overflow_add-result

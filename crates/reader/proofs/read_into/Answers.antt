@@ -12,5 +12,5 @@ returns-in-Accepted c =    into_ad c.args.text.now _ _ _ _
 pub returns-in-Refused : goal.returns-in-Refused
 returns-in-Refused c =    into_none c.args.text.now c.read_ad.new.words c.read_ad.new.bytes _ _
     _ _ _ (rw c.in-Refused.is at c.read_ad.ensures) c.refuse.ensures
-    (c.read_ad.auto.1.0 ∙ (c.clear_words.auto.0 ∙ c.requires.words))
-    (c.read_ad.auto.1.1.0 ∙ (c.clear_bytes.auto.0 ∙ c.requires.bytes))
+    (c.read_ad.auto.words ∙ (c.clear_words.auto.words ∙ c.requires.words))
+    (c.read_ad.auto.bytes ∙ (c.clear_bytes.auto.bytes ∙ c.requires.bytes))

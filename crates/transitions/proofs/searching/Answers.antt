@@ -43,11 +43,12 @@ explore-requires c = record {
     }
 
 pub returns-then-i-led_count : goal.returns-then-i-led_count
-returns-then-i-led_count c =     (
-      λ b d ls. c.explore.ensures.ls_after _ _ ls (step_loop_link _ b _ d (c.led_count.ensures.by_index b d)
-          c.followed-i.ensures c.if-i-led_count.true (c.led_to-y.ensures.by_index b d) (c.refers-refers.ensures b d)),
-      c.explore.ensures.kept,
-    )
+returns-then-i-led_count c = record {
+      by_index = λ b d ls. c.explore.ensures.ls_after _ _ ls (step_loop_link _ b _ d (c.led_count.ensures.by_index b d)
+          c.followed-i.ensures c.if-i-led_count.true (c.led_to-y.ensures.by_index b d) (c.refers-refers.ensures b d));
+      kept = c.explore.ensures.kept;
+      flags = c.explore.ensures.flags;
+    }
 
 pub overflow_add-p : goal.overflow_add-p
 overflow_add-p c =    let h = nodes_fit c.requires.ads.0 in
