@@ -110,6 +110,8 @@ class Function:
             self.say(f"no step {parts[0]}")
             return [parts[0]] + rest
         step = self.steps[head]
+        if rest:
+            rest = [{"taken": "true", "left": "false", "inv": "invariant"}.get(rest[0], rest[0])] + rest[1:]
         callee = self.callees.get(head)
         if rest and rest[0] in ("last", "kept") and len(rest) > 1 and rest[1] in "01":
             rest = [{"last": "new", "kept": "auto"}[rest[0]]] + rest[1:]

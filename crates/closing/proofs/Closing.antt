@@ -8,7 +8,7 @@ use lib.ListN.{length, set, drop, drop_of_length-le}
 use Rattle.graph.specs.Members.{numbers}
 use Rattle.graph.specs.Graph.{Graph}
 use Rattle.graph.specs.Transition.{named, led, searched_to, back_open, back_closed, next_open, close, transition}
-use Rattle.graph.specs.Laws.Transitions.{state_eq, transition_leave_open, transition_collect, transition_close, transition_complete}
+use Rattle.graph.proofs.Laws.Transitions.{state_eq, transition_leave_open, transition_collect, transition_close, transition_complete}
 use Rattle.graph.specs.declared.Place.{Place}
 use Rattle.graph.specs.declared.Place.TheVariants.{Searching, Closing}
 use Rattle.marks.specs.Inner.Memory.{view, mark_at, marks_room, mark_words, AtLoopLast}

@@ -12,7 +12,7 @@ use borrow.Author.Tests.{le-ltb, lt-ltb}
 use Rattle.graph.specs.Members.{put, numbers, raised}
 use Rattle.graph.specs.Graph.{Graph}
 use Rattle.graph.specs.Transition.{led, searched_to, discover, transition}
-use Rattle.graph.specs.Laws.Transitions.{state_eq, transition_seek, transition_skip, transition_discover, transition_cross, transition_tie}
+use Rattle.graph.proofs.Laws.Transitions.{state_eq, transition_seek, transition_skip, transition_discover, transition_cross, transition_tie}
 use Rattle.graph.specs.declared.Place.{Place}
 use Rattle.graph.specs.declared.Place.TheVariants.{Starting, Searching, Between}
 use Rattle.marks.specs.Inner.Memory.{view, mark_at, mark_words, fill, flagged_at, AtSeek, AtLoopLink}

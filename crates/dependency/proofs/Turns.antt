@@ -11,11 +11,11 @@ use lib.Dec.{eqb, ltb, leb}
 use borrow.Author.Tests.{leb-true, leb-false, lt-ltb}
 use Rattle.graph.specs.Graph.{Graph, Sound}
 use Rattle.graph.specs.Transition.{State, searches, led, named, marked, searched_to, resolved_to, transition, transitions, first}
-use Rattle.graph.specs.Laws.Traversal.{Ends, traverse, within_square}
-use Rattle.graph.specs.Laws.Progress.{transitions_suc, total, before_end, over_at, room_at, taken, pending, Awake, awake_next}
-use Rattle.graph.specs.Laws.Range.{InRange, Ranged, slotted, ranged_transitions, ranged_first}
-use Rattle.graph.specs.Laws.Numbers.{Small, small_transitions, small_first}
-use Rattle.graph.specs.Laws.Transitions.{state_eq}
+use Rattle.graph.proofs.Laws.Traversal.{Ends, traverse, within_square}
+use Rattle.graph.proofs.Laws.Progress.{transitions_suc, total, before_end, over_at, room_at, taken, pending, Awake, awake_next}
+use Rattle.graph.proofs.Laws.Range.{InRange, Ranged, slotted, ranged_transitions, ranged_first}
+use Rattle.graph.proofs.Laws.Numbers.{Small, small_transitions, small_first}
+use Rattle.graph.proofs.Laws.Transitions.{state_eq}
 use Rattle.graph.specs.declared.Place.{Place}
 use Rattle.graph.specs.declared.Place.TheVariants.{Resolving, Starting, Searching, Closing, Between, Inside}
 use Rattle.links.specs.Pair.{pair_graph}

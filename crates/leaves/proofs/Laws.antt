@@ -12,7 +12,7 @@ use Rattle.syntax.specs.Tree.{string, own, other, literal, reference, size}
 use Rattle.syntax.specs.Token as T
 use Rattle.syntax.specs.Token.{Tokens, next, end, bad, Body, closed, broken, grown, body_of}
 use Rattle.syntax.specs.Reader.{refused, code_of, on_word, on_token, misfit, count, conditional_at}
-use Rattle.syntax.specs.Laws.Codes.{code_same, symbol_coded, operator_low}
+use Rattle.syntax.proofs.Laws.Codes.{code_same, symbol_coded, operator_low}
 use Rattle.syntax.specs.declared.Binary.{Binary}
 use Rattle.syntax.specs.declared.Symbol.{Symbol}
 use Rattle.syntax.specs.declared.Symbol.TheVariants.{OpenParenthesis, Point, Other}

@@ -12,7 +12,7 @@ use borrow.Author.Tests.{le-ltb, lt-ltb}
 use Rattle.graph.specs.Members.{put, numbers, raised}
 use Rattle.graph.specs.Graph.{Graph}
 use Rattle.graph.specs.Transition.{named, needed, back, marked, searched_to, resolved_to, transition}
-use Rattle.graph.specs.Laws.Transitions.{state_eq, transition_resolve, transition_begin, transition_omit, transition_pass, transition_enter, transition_leave}
+use Rattle.graph.proofs.Laws.Transitions.{state_eq, transition_resolve, transition_begin, transition_omit, transition_pass, transition_enter, transition_leave}
 use Rattle.graph.specs.declared.Place.{Place}
 use Rattle.graph.specs.declared.Place.TheVariants.{Resolving, Starting, Between, Inside}
 use Rattle.marks.specs.Inner.Memory.{view, mark_at, marks_room, mark_words, fill, AtNode, AtStart, AtLink, AtLast, Grows}

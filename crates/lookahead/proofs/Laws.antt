@@ -9,7 +9,7 @@ use borrow.Author.Tests.{ne_eqb}
 use Rattle.syntax.specs.Token.{Token, word, constant, operator, symbol, next}
 use Rattle.syntax.specs.Grammar.{binds_of, unary_token}
 use Rattle.syntax.specs.Reader.{code_of, is_token}
-use Rattle.syntax.specs.Laws.Codes.{code_same, symbol_coded, operator_low, symbol_high}
+use Rattle.syntax.proofs.Laws.Codes.{code_same, symbol_coded, operator_low, symbol_high}
 use Rattle.syntax.specs.declared.Binary.{Binary}
 use Rattle.syntax.specs.declared.Unary.{Unary}
 use Rattle.syntax.specs.declared.Unary.TheVariants.{Not, Plus, Minus}

@@ -13,8 +13,8 @@ use borrow.Author.Tests.{eq-eqb, le-ltb}
 use Rattle.graph.specs.Members.{put, numbers, raised}
 use Rattle.graph.specs.Graph.{Graph}
 use Rattle.graph.specs.Transition.{named}
-use Rattle.graph.specs.Laws.Transitions.{named_of, named_none}
-use Rattle.graph.specs.Laws.Members.{put_same, put_other}
+use Rattle.graph.proofs.Laws.Transitions.{named_of, named_none}
+use Rattle.graph.proofs.Laws.Members.{put_same, put_other}
 use Rattle.marks.specs.Inner.Memory.{mark_at, marks_room, mark_words, fill, flagged_at, Flagged}
 
 pub numbers_set : (l : List ℕ) (x v : ℕ) → x < length l → numbers (set l x v) ≡ put (numbers l) x v

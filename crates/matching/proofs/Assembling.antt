@@ -7,9 +7,9 @@ use mathlib.Core.List.{List, [], ◌∷◌, ◌++◌, map}
 use lib.ListN.{length, get_or, replicate, length-append, length-map, length-replicate, get_or-append}
 use lib.Seq.{take_all}
 use Rattle.graph.specs.Members.{◌∈◌, Each, raised}
-use Rattle.graph.specs.Laws.Members.{mem_nil, at_mem}
+use Rattle.graph.proofs.Laws.Members.{mem_nil, at_mem}
 use Rattle.graph.specs.Graph.{Sound, Node, needs, Entered}
-use Rattle.graph.specs.Laws.Traversal.{needs_links, needs_acyclic}
+use Rattle.graph.proofs.Laws.Traversal.{needs_links, needs_acyclic}
 use Rattle.links.specs.Pair.{pair_graph, roots_of, requirements, rank}
 use Rattle.links.specs.Inner.Asked.{Formed, Stands, RootMarks}
 use Rattle.links.specs.Laws.Soundness.{pair_sound}
@@ -21,9 +21,9 @@ use Rattle.slots.specs.declared.Slot.TheVariants.{Blank, Held}
 use Rattle.slots.specs.Packed.{slot_at}
 use Rattle.nodes.specs.Nodes.{value_in}
 use Rattle.valuation.specs.Run.{Ran}
-use Rattle.valuation.specs.Laws.Values.{entered_in}
-use Rattle.valuation.specs.Laws.Transfer.{entered_part}
-use Rattle.valuation.specs.Laws.Runs.{run_ran}
+use Rattle.valuation.proofs.Laws.Values.{entered_in}
+use Rattle.valuation.proofs.Laws.Transfer.{entered_part}
+use Rattle.valuation.proofs.Laws.Runs.{run_ran}
 use Rattle.evaluation.specs.Evaluation.{rule_at, seen, needed, entries, RunTo}
 use Rattle.evaluation.specs.Inner.Asked.{AtRun}
 use Rattle.verdict.specs.Verdict.{is_true, rank_of}

@@ -8,7 +8,7 @@ use lib.ListN.{length, get_or, drop, length-append, drop_of_length-le}
 use lib.Seq.{slice, length-slice}
 use lib.Dec.{leb, eqb}
 use borrow.Author.Tests.{lt-ltb, le-ltb, ne_eqb, leb-true, leb-false}
-use Rattle.syntax.specs.Laws.FrontTokens.{value_append, every_append, front_every, fraction_every, real_small}
+use Rattle.syntax.proofs.Laws.FrontTokens.{value_append, every_append, front_every, fraction_every, real_small}
 use Rattle.syntax.specs.Inner.Lexeme.{every}
 use Rattle.text.specs.Bytes.{is_digit}
 use Rattle.text.specs.Parts.{drop_one, slice_back, slice_one, drop_behind}

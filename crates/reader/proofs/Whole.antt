@@ -10,7 +10,7 @@ use borrow.Author.Tests.{lt-ltb, le-ltb}
 use Rattle.ad.specs.Laws.Content.{length_ad, length_entries}
 use Rattle.syntax.specs.Reader as R
 use Rattle.syntax.specs.Reader.{parse, read}
-use Rattle.syntax.specs.Laws.Accepts.{accepts}
+use Rattle.syntax.proofs.Laws.Accepts.{accepts}
 use Rattle.ad.specs.Layout.{padded, ad_nodes, ad_definitions, ad_bytes, stored_words, stored_bytes}
 use Rattle.leaves.specs.Inner.Marks.{Memory, memory}
 use Rattle.reader.specs.Content.{answer, words_after, bytes_after, Answered}

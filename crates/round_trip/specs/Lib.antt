@@ -1,5 +1,3 @@
 pub mod Printed
 pub mod Bounded
 pub mod WithoutPair
-pub mod Laws
-pub mod Examples

@@ -8,7 +8,7 @@ use lib.ListN.{length, get_or, take, drop, length-drop}
 use lib.Seq.{get_or-drop}
 use lib.Dec.{eqb}
 use borrow.Author.Tests.{ne_eqb, eqb-true}
-use Rattle.syntax.specs.Laws.FrontTokens.{FrontFits, symbol_fits}
+use Rattle.syntax.proofs.Laws.FrontTokens.{FrontFits, symbol_fits}
 use Rattle.text.specs.Bytes.{bytes}
 use Rattle.syntax.specs.Token as T
 use Rattle.syntax.specs.Token.{pick, Front, good, wrong, Spelling, symbol_in, spellings, begins}

@@ -6,4 +6,3 @@ pub mod Reader
 pub mod Print
 pub mod Examples
 pub mod Inner
-pub mod Laws

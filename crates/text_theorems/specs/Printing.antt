@@ -11,7 +11,7 @@ use Rattle.well_formed.specs.Laws.Bounds.{bounded}
 use Rattle.well_formed.specs.Laws.Whole.{holds_long, holds_found}
 use Rattle.well_formed.specs.declared.Checked.{Checked}
 use Rattle.well_formed.specs.declared.Checked.TheVariants.{WellFormed, Malformed}
-use Rattle.round_trip.specs.Laws.RoundTrip.{read_back}
+use Rattle.round_trip.proofs.Laws.RoundTrip.{read_back}
 use Rattle.printer.specs.Prints.{Roomy, Stored, Fitting, Refuses, small, malformed, long, PrintsText, Prints, HandsBack}
 use Rattle.printer.specs.declared.Printed.{Printed}
 use Rattle.printer.specs.declared.Printed.TheVariants.{Text, Refused}

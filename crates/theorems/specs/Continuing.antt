@@ -3,7 +3,7 @@
 use Rattle.std.specs.Prelude.{ℕ, ◌+◌, ◌≡◌, refl, Bool, List, [], ◌∷◌, ◌++◌, take, drop, replicate}
 use Rattle.std.proofs.Common.{sym, ap, ap₂, ◌∙◌, take-add}
 use Rattle.graph.specs.Graph.{Graph, needs}
-use Rattle.graph.specs.Laws.Traversal.{list_unique}
+use Rattle.graph.proofs.Laws.Traversal.{list_unique}
 use Rattle.links.specs.Pair.{pair_graph}
 use Rattle.values.specs.declared.Value.{Value}
 use Rattle.evaluation.specs.Evaluation.{rule_at, step_words, steps_words, RunTo}

@@ -3,7 +3,7 @@
 use Rattle.std.specs.Prelude.{ℕ, ◌≤◌, ◌<◌, ◌≡◌, Bool, cond, List, length, ltb}
 use Rattle.std.proofs.Math.Decide.{dec_lt}
 use Rattle.std.proofs.Common.{arith, sym, ap, ◌∙◌, subst, le-ltb, lt-ltb}
-use Rattle.graph.specs.Laws.Traversal.{list_unique}
+use Rattle.graph.proofs.Laws.Traversal.{list_unique}
 use Rattle.links.specs.Pair.{pair_graph}
 use Rattle.links.specs.Inner.Asked.{Formed}
 use Rattle.matching.specs.Matching.{Match}

@@ -6,7 +6,7 @@ use Rattle.std.proofs.Common.{arith, sym, ap, ◌∙◌, subst}
 use Rattle.ad.specs.Layout.{ad_words}
 use Rattle.ad.specs.Stored.{node_count}
 use Rattle.graph.specs.Members.{Distinct}
-use Rattle.graph.specs.Laws.Traversal.{TheList, the_list}
+use Rattle.graph.proofs.Laws.Traversal.{TheList, the_list}
 use Rattle.links.specs.Pair.{pair_graph}
 use Rattle.links.specs.Inner.Asked.{Formed}
 use Rattle.links.specs.Laws.Counting.{nodes_few}

@@ -14,15 +14,15 @@ use Rattle.syntax.specs.Token.{Token, good, Spelling, spellings, begins, front_t
 use Rattle.syntax.specs.Grammar.{IsAd, Within, Whole}
 use Rattle.syntax.specs.Reader.{accepted, parse, read}
 use Rattle.syntax.specs.Print.{printed_ad}
-use Rattle.syntax.specs.Laws.Accepts as grammar
-use Rattle.syntax.specs.Laws.Longest as longest
+use Rattle.syntax.proofs.Laws.Accepts as grammar
+use Rattle.syntax.proofs.Laws.Longest as longest
 use Rattle.ad.specs.Layout.{ad_bytes, ad_words, ad_bytes_room, stored_words, stored_bytes}
 use Rattle.grammar.specs.Refusal.{Refused}
 use Rattle.well_formed.specs.Laws.Named as content
 use Rattle.round_trip.specs.Bounded.{Bounded}
 use Rattle.round_trip.specs.WithoutPair.{DefinitionsWithoutPair, in_brackets}
-use Rattle.round_trip.specs.Laws.Readable as readable
-use Rattle.round_trip.specs.Laws.WithoutPair as parentheses
+use Rattle.round_trip.proofs.Laws.Readable as readable
+use Rattle.round_trip.proofs.Laws.WithoutPair as parentheses
 use Rattle.well_formed.specs.WellFormed.{Holds, Answers}
 use Rattle.well_formed.specs.Laws.Bounds as bounds
 use Rattle.well_formed.specs.declared.Checked.{Checked}
@@ -36,7 +36,7 @@ use Rattle.printer.specs.Prints.{Roomy, Prints, HandsBack}
 use Rattle.integers.specs.Integers.{width, signed}
 use Rattle.rounding.specs.Nearest.{Nearest}
 use Rattle.rounding.specs.Exact.{negative}
-use Rattle.rounding.specs.Laws.Unique as rounding
+use Rattle.rounding.proofs.Laws.Unique as rounding
 use Rattle.reals.specs.Reals.{literal_real, integer_real}
 use Rattle.reals.specs.Laws.Nearest as reals
 use Rattle.values.specs.declared.Value.{Value}
@@ -58,8 +58,8 @@ use Rattle.graph.specs.Members.{◌∈◌, Distinct, raised}
 use Rattle.graph.specs.Graph.{Graph, Circular, Flags, needs, Entered, IsList}
 use Rattle.graph.specs.Transition as moves
 use Rattle.graph.specs.Transition.{State, transition, transitions, Ended}
-use Rattle.graph.specs.Laws.Locality.{Alike, local}
-use Rattle.graph.specs.Laws.Touch.{Touch, one_touch}
+use Rattle.graph.proofs.Laws.Locality.{Alike, local}
+use Rattle.graph.proofs.Laws.Touch.{Touch, one_touch}
 use Rattle.links.specs.Pair.{numbered, requirements, rank, pair_graph}
 use Rattle.links.specs.Inner.Asked.{Formed}
 use Rattle.dependency.specs.Traversal.{Traversed}

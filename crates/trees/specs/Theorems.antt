@@ -9,8 +9,8 @@ use Rattle.ad.specs.Stored.{node_count}
 use Rattle.well_formed.specs.WellFormed.{Holds}
 use Rattle.graph.specs.Members.{◌∈◌}
 use Rattle.graph.specs.Graph.{Graph, Node, Circular, Flags, needs, IsList}
-use Rattle.graph.specs.Laws.Members.{mem_nil, mem_left, Sides}
-use Rattle.graph.specs.Laws.Traversal.{the_list, needs_links}
+use Rattle.graph.proofs.Laws.Members.{mem_nil, mem_left, Sides}
+use Rattle.graph.proofs.Laws.Traversal.{the_list, needs_links}
 use Rattle.links.specs.Pair.{numbered, definition_at, requirements, rank, pair_graph}
 use Rattle.links.specs.Laws.Finding.{find_tree}
 use Rattle.links.specs.Laws.Layout.{stored_sound, stored_formed}
@@ -19,8 +19,8 @@ use Rattle.values.specs.declared.Value.{Value}
 use Rattle.slots.specs.declared.Slot.TheVariants.{Held}
 use Rattle.slots.specs.Packed.{slot_at}
 use Rattle.valuation.specs.Gives.{Gives}
-use Rattle.valuation.specs.Laws.Values.{one_value_graph}
-use Rattle.valuation.specs.Laws.Transfer.{entered_part}
+use Rattle.valuation.proofs.Laws.Values.{one_value_graph}
+use Rattle.valuation.proofs.Laws.Transfer.{entered_part}
 use Rattle.evaluation.specs.Evaluation.{rule_at}
 use Rattle.verdict.specs.Verdict.{is_true, rank_of}
 use Rattle.matching.specs.Matching.{Worth, absent, present, Match}

@@ -12,4 +12,4 @@ returns-in-10 c = rw c.in-10.is
 
 pub returns-in_default : goal.returns-in_default
 unfolding unary_of
-returns-in_default c =    rw (ne_eqb c.args.kind 9 c.in_default.in_default-own.rest.0.1, ne_eqb c.args.kind 10 c.in_default.in_default-own.rest.1)
+returns-in_default c = rw (ne_eqb c.args.kind 9 c.in_default.in_default-own.rest.0.1, ne_eqb c.args.kind 10 c.in_default.in_default-own.rest.1)

@@ -14,20 +14,20 @@ pub offset-first-requires : goal.offset-first-requires
 offset-first-requires c = (c.requires.few, c.requires.words)
 
 pub name_length-len-requires : goal.name_length-len-requires
-name_length-len-requires c =    (c.requires.few, c.requires.words)
+name_length-len-requires c = (c.requires.few, c.requires.words)
 
 pub root-root-requires : goal.root-root-requires
-root-root-requires c =    (c.requires.few, c.requires.words)
+root-root-requires c = (c.requires.few, c.requires.words)
 
 pub put-m-requires : goal.put-m-requires
-put-m-requires c =    rw (c.part.ensures
+put-m-requires c = rw (c.part.ensures
     ∙ (λ m. bytes_at c.args.bytes.now (c.offset-first.ensures m)
     (c.name_length-len.ensures m))) (name_near c.args.words.now c.args.bytes.now
     c.args.j c.args.at c.requires)
 
 pub put-n-requires : goal.put-n-requires
 unfolding bytes
-put-n-requires c =    equals_near c.args.words.now c.args.bytes.now c.args.j c.args.at c.requires
+put-n-requires c = equals_near c.args.words.now c.args.bytes.now c.args.j c.args.at c.requires
     c.put-m.result (c.put-m.ensures.behind
     ∙ ap (λ (l : List ℕ). c.args.at + length l) (c.part.ensures
     ∙ (λ m. bytes_at c.args.bytes.now (c.offset-first.ensures m)
@@ -35,7 +35,7 @@ put-n-requires c =    equals_near c.args.words.now c.args.bytes.now c.args.j c.a
 
 pub put_tree-requires : goal.put_tree-requires
 unfolding bytes
-put_tree-requires c =    tree_fits_as c.args.words.now c.args.bytes.now c.root-root.result
+put_tree-requires c = tree_fits_as c.args.words.now c.args.bytes.now c.root-root.result
     (root_at c.args.words.now c.args.j) c.put-n.result c.root-root.ensures (root_fits
     c.args.words.now c.args.bytes.now c.args.j c.args.at c.requires c.put-m.result
     (c.put-m.ensures.behind
@@ -45,7 +45,7 @@ put_tree-requires c =    tree_fits_as c.args.words.now c.args.bytes.now c.root-r
 
 pub returns : goal.returns
 unfolding bytes
-returns c =    row_written c.args.words.now c.args.bytes.now c.args.j c.args.at _ _ _ _ _ _ _ (puts_as
+returns c = row_written c.args.words.now c.args.bytes.now c.args.j c.args.at _ _ _ _ _ _ _ (puts_as
     (c.part.ensures
     ∙ (λ m. bytes_at c.args.bytes.now (c.offset-first.ensures m)
     (c.name_length-len.ensures m))) c.put-m.ensures) c.put-n.ensures

@@ -6,25 +6,25 @@ use borrow.Author.Rules.{rules}
 use Rattle.arithmetic.proofs.compute.Goals as goal
 
 pub returns-in-Refused : goal.returns-in-Refused
-returns-in-Refused c =    arithmetic_of c.args.op c.args.a c.args.b c.number_only.ensures
+returns-in-Refused c = arithmetic_of c.args.op c.args.a c.args.b c.number_only.ensures
     c.number_only-2.ensures c.pair_of-pair.ensures c.in-Refused.is
 
 pub returns-in-Missing : goal.returns-in-Missing
-returns-in-Missing c =    arithmetic_of c.args.op c.args.a c.args.b c.number_only.ensures
+returns-in-Missing c = arithmetic_of c.args.op c.args.a c.args.b c.number_only.ensures
     c.number_only-2.ensures c.pair_of-pair.ensures c.in-Missing.is
 
 pub returns-in-Integers : goal.returns-in-Integers
-returns-in-Integers c =    c.of_integers.ensures
+returns-in-Integers c = c.of_integers.ensures
     ∙ arithmetic_of c.args.op c.args.a c.args.b
     c.number_only.ensures c.number_only-2.ensures
     c.pair_of-pair.ensures c.in-Integers.is
 
 pub returns-in-Reals : goal.returns-in-Reals
-returns-in-Reals c =    ap Real c.of_reals.ensures
+returns-in-Reals c = ap Real c.of_reals.ensures
     ∙ arithmetic_of c.args.op c.args.a c.args.b
     c.number_only.ensures c.number_only-2.ensures
     c.pair_of-pair.ensures c.in-Reals.is
 
 pub returns-in-Strings : goal.returns-in-Strings
-returns-in-Strings c =    arithmetic_of c.args.op c.args.a c.args.b c.number_only.ensures
+returns-in-Strings c = arithmetic_of c.args.op c.args.a c.args.b c.number_only.ensures
     c.number_only-2.ensures c.pair_of-pair.ensures c.in-Strings.is

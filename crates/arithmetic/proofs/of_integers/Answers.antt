@@ -21,9 +21,9 @@ pub returns-in-Product : goal.returns-in-Product
 returns-in-Product c = rw c.in-Product.is (ap Integer c.product.ensures)
 
 pub returns-else-y-eq0 : goal.returns-else-y-eq0
-returns-else-y-eq0 c =    rw (c.in-Quotient.is, ne_eqb _ 0 c.if-y-eq0.false)
+returns-else-y-eq0 c = rw (c.in-Quotient.is, ne_eqb _ 0 c.if-y-eq0.false)
     (ap Integer c.quotient.ensures)
 
 pub returns-else-y-eq0-2 : goal.returns-else-y-eq0-2
-returns-else-y-eq0-2 c =    rw (c.in-Remainder.is, ne_eqb _ 0 c.if-y-eq0-2.false)
+returns-else-y-eq0-2 c = rw (c.in-Remainder.is, ne_eqb _ 0 c.if-y-eq0-2.false)
     (ap Integer c.remainder.ensures)

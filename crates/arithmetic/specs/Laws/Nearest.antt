@@ -1,6 +1,6 @@
 -- Each operation on Reals is rounded once. Assumes nothing.
 use Rattle.std.specs.Float.{binary64}
-use Rattle.rounding.specs.Laws.Operations.{add_nearest, sub_nearest, mul_nearest, div_nearest, rem_nearest}
+use Rattle.rounding.proofs.Laws.Operations.{add_nearest, sub_nearest, mul_nearest, div_nearest, rem_nearest}
 use Rattle.arithmetic.specs.declared.Arithmetic.TheVariants.{Sum, Difference, Product, Quotient, Remainder}
 use Rattle.arithmetic.specs.Exact.{RoundsOnce}
 

@@ -7,6 +7,6 @@ use borrow.Author.Rules.{rules}
 use Rattle.c_conditional.proofs.conditional.Goals as goal
 
 pub returns : goal.returns
-returns c =    let same = ap₃ conditional_slot c.load-p.ensures
+returns c = let same = ap₃ conditional_slot c.load-p.ensures
     c.load-a.ensures c.load-b.ensures in
     subst (Stored _ _ 0) (c.conditional_slot.ensures ∙ same) c.store.ensures

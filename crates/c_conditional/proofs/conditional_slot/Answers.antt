@@ -5,5 +5,5 @@ use borrow.Author.Rules.{rules}
 use Rattle.c_conditional.proofs.conditional_slot.Goals as goal
 
 pub returns : goal.returns
-returns c =    rw (c.in-Held.is, c.in-Held-a.is, c.in-Held-b.is)
+returns c = rw (c.in-Held.is, c.in-Held-a.is, c.in-Held-b.is)
     (ap Held c.conditional.ensures)

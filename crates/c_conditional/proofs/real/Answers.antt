@@ -7,4 +7,4 @@ use borrow.Author.Rules.{rules}
 use Rattle.c_conditional.proofs.real.Goals as goal
 
 pub returns : goal.returns
-returns c =    subst (Stored _ _ 0) (ap (λ x. Held (Real x)) c.literal.ensures) c.store.ensures
+returns c = subst (Stored _ _ 0) (ap (λ x. Held (Real x)) c.literal.ensures) c.store.ensures

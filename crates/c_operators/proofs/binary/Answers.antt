@@ -7,6 +7,6 @@ use borrow.Author.Rules.{rules}
 use Rattle.c_operators.proofs.binary.Goals as goal
 
 pub returns : goal.returns
-returns c =    let same = ap₃ (binary_slot c.args.first.now c.args.second.now) c.binary_named.ensures
+returns c = let same = ap₃ (binary_slot c.args.first.now c.args.second.now) c.binary_named.ensures
     c.load-a.ensures c.load-b.ensures in
     subst (Stored _ _ 0) (c.binary_slot.ensures ∙ same) c.store.ensures

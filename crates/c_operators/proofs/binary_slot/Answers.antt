@@ -8,8 +8,8 @@ pub returns-in_default-a : goal.returns-in_default-a
 returns-in_default-a c = rw (c.in-Operator.is, c.in_default-a.is)
 
 pub returns-in_default-b : goal.returns-in_default-b
-returns-in_default-b c =    rw (c.in-Operator.is, c.in-Held.is, c.in_default-b.is)
+returns-in_default-b c = rw (c.in-Operator.is, c.in-Held.is, c.in_default-b.is)
 
 pub returns : goal.returns
-returns c =    rw (c.in-Operator.is, c.in-Held.is, c.in-Held-b.is)
+returns c = rw (c.in-Operator.is, c.in-Held.is, c.in-Held-b.is)
     (ap Held c.binary.ensures)

@@ -6,5 +6,5 @@ use borrow.Author.Rules.{rules}
 use Rattle.c_operators.proofs.unary.Goals as goal
 
 pub returns : goal.returns
-returns c =    let same = ap₂ unary_slot c.unary_named.ensures c.load.ensures in
+returns c = let same = ap₂ unary_slot c.unary_named.ensures c.load.ensures in
     subst (Stored _ _ 0) (c.unary_slot.ensures ∙ same) c.store.ensures

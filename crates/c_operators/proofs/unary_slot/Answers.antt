@@ -5,4 +5,4 @@ use borrow.Author.Rules.{rules}
 use Rattle.c_operators.proofs.unary_slot.Goals as goal
 
 pub returns : goal.returns
-returns c =    rw (c.in-Operator.is, c.in-Held.is) (ap Held c.unary.ensures)
+returns c = rw (c.in-Operator.is, c.in-Held.is) (ap Held c.unary.ensures)

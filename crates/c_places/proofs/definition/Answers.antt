@@ -6,18 +6,18 @@ use borrow.Author.Rules.{rules}
 use Rattle.c_places.proofs.definition.Goals as goal
 
 pub offset-requires : goal.offset-requires
-offset-requires c =    holder_inside c.args.words.now c.args.node
+offset-requires c = holder_inside c.args.words.now c.args.node
     c.in-Definition.j (sym c.definition_of.ensures ∙ c.in-Definition.is)
 
 pub name_length-requires : goal.name_length-requires
-name_length-requires c =    holder_inside c.args.words.now c.args.node
+name_length-requires c = holder_inside c.args.words.now c.args.node
     c.in-Definition.j (sym c.definition_of.ensures ∙ c.in-Definition.is)
 
 pub returns-in-Nothing : goal.returns-in-Nothing
-returns-in-Nothing c =    ap (holder_numbers c.args.words.now)
+returns-in-Nothing c = ap (holder_numbers c.args.words.now)
     (sym c.in-Nothing.is ∙ c.definition_of.ensures)
 
 pub returns-in-Definition : goal.returns-in-Definition
-returns-in-Definition c =    rw (c.offset.ensures, c.name_length.ensures) (ap
+returns-in-Definition c = rw (c.offset.ensures, c.name_length.ensures) (ap
     (holder_numbers c.args.words.now)
     (sym c.in-Definition.is ∙ c.definition_of.ensures))

@@ -6,7 +6,7 @@ use borrow.Author.Rules.{rules}
 use Rattle.c_reading.proofs.read.Goals as goal
 
 pub returns : goal.returns
-returns c =    record {
-      reads = subst (Answered _ _ _ _ _) c.read.ensures.answers c.read.ensures;
-      tells = c.numbers.ensures ∙ ap numbers_of c.read.ensures.answers;
-    }
+returns c = record {
+  reads = subst (Answered _ _ _ _ _) c.read.ensures.answers c.read.ensures;
+  tells = c.numbers.ensures ∙ ap numbers_of c.read.ensures.answers;
+}

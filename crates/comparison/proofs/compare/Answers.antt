@@ -7,27 +7,27 @@ use borrow.Author.Rules.{rules}
 use Rattle.comparison.proofs.compare.Goals as goal
 
 pub returns-in-Refused : goal.returns-in-Refused
-returns-in-Refused c =    comparison_of c.args.first.now c.args.second.now c.args.op c.args.a
+returns-in-Refused c = comparison_of c.args.first.now c.args.second.now c.args.op c.args.a
     c.args.b c.pair_of-pair.ensures c.in-Refused.is
 
 pub returns-in-Missing : goal.returns-in-Missing
-returns-in-Missing c =    comparison_of c.args.first.now c.args.second.now c.args.op c.args.a
+returns-in-Missing c = comparison_of c.args.first.now c.args.second.now c.args.op c.args.a
     c.args.b c.pair_of-pair.ensures c.in-Missing.is
 
 pub returns-in-Integers : goal.returns-in-Integers
-returns-in-Integers c =    ap Boolean c.compare_integers.ensures
+returns-in-Integers c = ap Boolean c.compare_integers.ensures
     ∙ comparison_of c.args.first.now c.args.second.now c.args.op c.args.a
     c.args.b c.pair_of-pair.ensures
     c.in-Integers.is
 
 pub returns-in-Reals : goal.returns-in-Reals
-returns-in-Reals c =    ap Boolean c.compare_reals.ensures
+returns-in-Reals c = ap Boolean c.compare_reals.ensures
     ∙ comparison_of c.args.first.now c.args.second.now c.args.op c.args.a
     c.args.b c.pair_of-pair.ensures
     c.in-Reals.is
 
 pub returns-in-Strings : goal.returns-in-Strings
-returns-in-Strings c =    ap Boolean (c.order_holds.ensures
+returns-in-Strings c = ap Boolean (c.order_holds.ensures
     ∙ ap (order_holds c.args.op) c.strings_order-order.ensures)
     ∙ comparison_of c.args.first.now c.args.second.now c.args.op c.args.a
     c.args.b c.pair_of-pair.ensures

@@ -8,12 +8,12 @@ use borrow.Author.Rules.{rules}
 use Rattle.comparison.proofs.strings_order.Goals as goal
 
 pub returns-then-side : goal.returns-then-side
-returns-then-side c =    rw c.if-side.true (c.order_with.ensures
+returns-then-side c = rw c.if-side.true (c.order_with.ensures
     ∙ ap (λ (l : List ℕ). string_order l
     (bytes_at c.args.first.now c.args.second.now c.args.s c.args.o c.args.n)) c.cut-bytes.ensures.result_value)
 
 pub returns : goal.returns
-returns c =    rw c.if-side.false (c.order_with-2.ensures
+returns c = rw c.if-side.false (c.order_with-2.ensures
     ∙ ap (λ (l : List ℕ). string_order l
     (bytes_at c.args.first.now c.args.second.now c.args.s c.args.o c.args.n))
     c.cut-bytes-2.ensures.result_value)

@@ -5,4 +5,4 @@ use borrow.Author.Rules.{rules}
 use Rattle.dependency.proofs.ended.Goals as goal
 
 pub returns-in-Between : goal.returns-in-Between
-returns-in-Between c =    sym (ap (λ (u : Place). ended_at u c.args.n) c.in-Between.is)
+returns-in-Between c = sym (ap (λ (u : Place). ended_at u c.args.n) c.in-Between.is)

@@ -8,12 +8,12 @@ use borrow.Author.Rules.{rules}
 use Rattle.dependency.proofs.run.Goals as goal
 
 pub overflow_add-p : goal.overflow_add-p
-overflow_add-p c =    let h = nodes_fit c.requires.ads.0 in
+overflow_add-p c = let h = nodes_fit c.requires.ads.0 in
     let k = nodes_fit c.requires.ads.1 in
     search rules
 
 pub loop-p-init : goal.loop-p-init
-loop-p-init c =    turn_first c.args.first_bytes.now c.args.second_bytes.now c.requires.ads.0
+loop-p-init c = turn_first c.args.first_bytes.now c.args.second_bytes.now c.requires.ads.0
     c.requires.ads.1 c.requires.ads.2 c.requires.ready.0 c.requires.ready.1 refl c.first_position-s.ensures.0
     c.first_position-s.ensures.1
 
@@ -30,24 +30,24 @@ pub shape_of-list-then-ended : goal.shape_of-list-then-ended
 shape_of-list-then-ended c = c.loop-p.invariant.ls_same
 
 pub returns-then-ended : goal.returns-then-ended
-returns-then-ended c =    turn_end c.loop-p.invariant c.ended.ensures c.if-ended.true
+returns-then-ended c = turn_end c.loop-p.invariant c.ended.ensures c.if-ended.true
 
 pub transition-s-requires : goal.transition-s-requires
 transition-s-requires c = record {
-      ads = (c.requires.ads.0, c.requires.ads.1, c.requires.ads.2, c.requires.ads.3);
-      room = (c.loop-p.invariant.going.roomy, turn_fits c.loop-p.invariant c.ended.ensures c.if-ended.false);
-    }
+  ads = (c.requires.ads.0, c.requires.ads.1, c.requires.ads.2, c.requires.ads.3);
+  room = (c.loop-p.invariant.going.roomy, turn_fits c.loop-p.invariant c.ended.ensures c.if-ended.false);
+}
 
 pub overflow_add-count : goal.overflow_add-count
-overflow_add-count c =    let h = turn_count c.loop-p.inv c.ended.ensures c.if-ended.left in
+overflow_add-count c = let h = turn_count c.loop-p.invariant c.ended.ensures c.if-ended.false in
     search rules
 
 pub loop-p-smaller : goal.loop-p-smaller
-loop-p-smaller c =    let h = turn_small c.loop-p.inv c.ended.ensures c.if-ended.left in
+loop-p-smaller c = let h = turn_small c.loop-p.invariant c.ended.ensures c.if-ended.false in
     omega arith
 
 pub loop-p-preserved : goal.loop-p-preserved
-loop-p-preserved c =    turn_next c.loop-p.invariant c.ended.ensures c.if-ended.false c.transition-s.ensures
+loop-p-preserved c = turn_next c.loop-p.invariant c.ended.ensures c.if-ended.false (c.transition-s.ensures.list_after, (c.transition-s.ensures.room, c.transition-s.ensures.flags))
     c.transition-s.auto.target
     c.transition-s.auto.marks
     c.transition-s.auto.flag

@@ -6,15 +6,15 @@ use borrow.Author.Rules.{rules}
 use Rattle.dependency.proofs.traverse.Goals as goal
 
 pub slice_bounds-roots-end : goal.slice_bounds-roots-end
-slice_bounds-roots-end c =    sym (length-take-le _ _ (omega arith))
+slice_bounds-roots-end c = sym (length-take-le _ _ (omega arith))
 
 pub run-t-requires : goal.run-t-requires
 run-t-requires c = record {
-      ads = (
-        c.requires.ads.0,
-        c.requires.ads.1,
-        c.list_roots-n.ensures.roots_after ∙ roots_listed c.find_roots-r.ensures,
-        c.fingerprints.ensures,
-      );
-      ready = (c.requires.ready, refl);
-    }
+  ads = (
+    c.requires.ads.0,
+    c.requires.ads.1,
+    c.list_roots-n.ensures.roots_after ∙ roots_listed c.find_roots-r.ensures,
+    c.fingerprints.ensures,
+  );
+  ready = (c.requires.ready, refl);
+}

@@ -6,7 +6,7 @@ use Rattle.std.proofs.lemmas.List.{length-replicate}
 use Rattle.graph.specs.Members.{numbers, raised}
 use Rattle.graph.specs.Graph.{Graph, Sound, needs}
 use Rattle.graph.specs.Transition.{named, led}
-use Rattle.graph.specs.Laws.Traversal.{marks_back}
+use Rattle.graph.proofs.Laws.Traversal.{marks_back}
 use Rattle.marks.specs.Inner.Memory.{marks_room, Clear}
 use Rattle.dependency.specs.Traversal.{Traversed}
 use Rattle.dependency.specs.Inner.Asked.{Ready}

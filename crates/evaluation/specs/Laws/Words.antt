@@ -6,7 +6,7 @@ use Rattle.std.proofs.Math.Path.{refl, sym, ap, fun_ext}
 use mathlib.Core.List.{List, [], ◌∷◌, ◌++◌, map}
 use Rattle.std.proofs.Math.ListN.{length}
 use Rattle.graph.specs.Members.{numbers}
-use Rattle.graph.specs.Laws.Members.{put_same, put_other}
+use Rattle.graph.proofs.Laws.Members.{put_same, put_other}
 use Rattle.graph.specs.Graph.{Graph}
 use Rattle.graph.specs.Transition.{led}
 use Rattle.values.specs.declared.Value.{Value}

@@ -18,59 +18,59 @@ read_arms-symbol_at-requires t c = c.requires.1.place
 
 pub read_arms-returns-then-depth-ge64 : goal.read_arms-returns-then-depth-ge64
 read_arms-returns-then-depth-ge64 t c = record {
-      within = tt;
-      exact = arms_deep c.args.text.now c.args.at c.args.depth (mark c.args.n c.args.k) c.args.begun
-          (memory c.args.words.now c.args.bytes.now) _ _
-          (rw c.in-Here.is at c.symbol_at.ensures)
-          (memory c.args.words.now c.args.bytes.now) c.if-depth-ge64.true;
-    }
+  within = tt;
+  exact = arms_deep c.args.text.now c.args.at c.args.depth (mark c.args.n c.args.k) c.args.begun
+      (memory c.args.words.now c.args.bytes.now) _ _
+      (rw c.in-Here.is at c.symbol_at.ensures)
+      (memory c.args.words.now c.args.bytes.now) c.if-depth-ge64.true;
+}
 
 pub read_arms-overflow_add-n : goal.read_arms-overflow_add-n
-read_arms-overflow_add-n t c =    omega (
-      arith,
-      c.requires.1.fits,
-    )
+read_arms-overflow_add-n t c = omega (
+  arith,
+  c.requires.1.fits,
+)
 
 pub read_arms-returns-then-n-begun-ge-NODES : goal.read_arms-returns-then-n-begun-ge-NODES
 read_arms-returns-then-n-begun-ge-NODES t c = record {
-      within = tt;
-      exact = arms_full c.args.text.now c.args.at c.args.depth (mark c.args.n c.args.k) c.args.begun
-          (memory c.args.words.now c.args.bytes.now) _ _
-          (rw c.in-Here.is at c.symbol_at.ensures)
-          (memory c.args.words.now c.args.bytes.now) c.if-depth-ge64.false c.if-n-begun-ge-NODES.true;
-    }
+  within = tt;
+  exact = arms_full c.args.text.now c.args.at c.args.depth (mark c.args.n c.args.k) c.args.begun
+      (memory c.args.words.now c.args.bytes.now) _ _
+      (rw c.in-Here.is at c.symbol_at.ensures)
+      (memory c.args.words.now c.args.bytes.now) c.if-depth-ge64.false c.if-n-begun-ge-NODES.true;
+}
 
 pub read_arms-overflow_add-depth : goal.read_arms-overflow_add-depth
 read_arms-overflow_add-depth t c = omega (arith, c.if-depth-ge64.false)
 
 pub read_arms-overflow_add-begun : goal.read_arms-overflow_add-begun
-read_arms-overflow_add-begun t c =    omega (
-      arith,
-      c.if-n-begun-ge-NODES.false,
-      c.requires.1.fits,
-    )
+read_arms-overflow_add-begun t c = omega (
+  arith,
+  c.if-n-begun-ge-NODES.false,
+  c.requires.1.fits,
+)
 
 pub read_arms-read_conditional-requires : goal.read_arms-read_conditional-requires
-read_arms-read_conditional-requires t c =    let g = (rw c.in-Here.is at c.symbol_at.ensures) in
+read_arms-read_conditional-requires t c = let g = (rw c.in-Here.is at c.symbol_at.ensures) in
     omega (arith, c.decreases, c.if-n-begun-ge-NODES.false)
 
 pub read_arms-symbol_at-requires-in-Done : goal.read_arms-symbol_at-requires-in-Done
-read_arms-symbol_at-requires-in-Done t c =    (rw c.in-Done.is at
+read_arms-symbol_at-requires-in-Done t c = (rw c.in-Done.is at
     c.read_conditional.ensures.within).high
 
 pub read_arms-overflow_add-depth-in-Here-symbol_at : goal.read_arms-overflow_add-depth-in-Here-symbol_at
-read_arms-overflow_add-depth-in-Here-symbol_at t c =    omega (
-      arith,
-      c.if-depth-ge64.false,
-    )
+read_arms-overflow_add-depth-in-Here-symbol_at t c = omega (
+  arith,
+  c.if-depth-ge64.false,
+)
 
 pub read_arms-overflow_add-begun-in-Here-symbol_at : goal.read_arms-overflow_add-begun-in-Here-symbol_at
-read_arms-overflow_add-begun-in-Here-symbol_at t c =    let i = (rw c.in-Done.is at
+read_arms-overflow_add-begun-in-Here-symbol_at t c = let i = (rw c.in-Done.is at
     c.read_conditional.ensures.within) in
     omega arith
 
 pub read_arms-read_conditional-requires-in-Here-symbol_at : goal.read_arms-read_conditional-requires-in-Here-symbol_at
-read_arms-read_conditional-requires-in-Here-symbol_at t c =    let g = (rw c.in-Here.is at c.symbol_at.ensures) in
+read_arms-read_conditional-requires-in-Here-symbol_at t c = let g = (rw c.in-Here.is at c.symbol_at.ensures) in
     let i = (rw c.in-Done.is at c.read_conditional.ensures.within) in
     let d = (rw c.in-Here-symbol_at.is at c.symbol_at-in-Done.ensures) in
     let l1 : length c.read_conditional.new.words ≡ length
@@ -80,18 +80,18 @@ read_arms-read_conditional-requires-in-Here-symbol_at t c =    let g = (rw c.in-
     omega (arith, c.decreases)
 
 pub read_arms-overflow_sub-n : goal.read_arms-overflow_sub-n
-read_arms-overflow_sub-n t c =    c.requires.0
+read_arms-overflow_sub-n t c = c.requires.0
 
 pub read_arms-overflow_sub-m : goal.read_arms-overflow_sub-m
-read_arms-overflow_sub-m t c =    (rw c.in-Done.is at
+read_arms-overflow_sub-m t c = (rw c.in-Done.is at
     c.read_conditional.ensures.within).some
 
 pub read_arms-overflow_sub-z : goal.read_arms-overflow_sub-z
-read_arms-overflow_sub-z t c =    (rw c.in-Done-read_conditional.is at
+read_arms-overflow_sub-z t c = (rw c.in-Done-read_conditional.is at
     c.read_conditional-in-Here-symbol_at.ensures.within).some
 
 pub read_arms-store_node-requires : goal.read_arms-store_node-requires
-read_arms-store_node-requires t c =    let j = (rw c.in-Done-read_conditional.is at c.read_conditional-in-Here-symbol_at.ensures.within) in
+read_arms-store_node-requires t c = let j = (rw c.in-Done-read_conditional.is at c.read_conditional-in-Here-symbol_at.ensures.within) in
     let l1 : length c.read_conditional.new.words ≡ length c.args.words.now =
     c.read_conditional.auto.words in
     let l2 : length c.read_conditional.new.bytes ≡ length
@@ -102,72 +102,72 @@ read_arms-store_node-requires t c =    let j = (rw c.in-Done-read_conditional.is
     omega arith
 
 pub read_arms-overflow_add-result : goal.read_arms-overflow_add-result
-read_arms-overflow_add-result t c =    let j = (rw c.in-Done-read_conditional.is at
+read_arms-overflow_add-result t c = let j = (rw c.in-Done-read_conditional.is at
     c.read_conditional-in-Here-symbol_at.ensures.within) in
     omega arith
 
 pub read_arms-returns-in-Absent : goal.read_arms-returns-in-Absent
 read_arms-returns-in-Absent t c = record {
-      within = record {
-        low = omega arith;
-        high = c.requires.1.place;
-        grows = omega arith;
-        some = c.requires.0;
-        fits = c.requires.1.fits;
-        short = c.requires.1.short;
-        fewer = omega arith;
-      };
-      exact = arms_stop c.args.text.now c.args.at c.args.depth (mark c.args.n c.args.k) c.args.begun
-          (memory c.args.words.now c.args.bytes.now)
-          (rw c.in-Absent.is at c.symbol_at.ensures).0;
-    }
+  within = record {
+    low = omega arith;
+    high = c.requires.1.place;
+    grows = omega arith;
+    some = c.requires.0;
+    fits = c.requires.1.fits;
+    short = c.requires.1.short;
+    fewer = omega arith;
+  };
+  exact = arms_stop c.args.text.now c.args.at c.args.depth (mark c.args.n c.args.k) c.args.begun
+      (memory c.args.words.now c.args.bytes.now)
+      (rw c.in-Absent.is at c.symbol_at.ensures).0;
+}
 
 pub read_arms-returns-in-Refused : goal.read_arms-returns-in-Refused
 read_arms-returns-in-Refused t c = record {
-      within = tt;
-      exact = arms_first c.args.text.now c.args.at c.args.depth (mark c.args.n c.args.k) c.args.begun
-          (memory c.args.words.now c.args.bytes.now) _ _
-          (rw c.in-Here.is at c.symbol_at.ensures)
-          c.if-depth-ge64.false c.if-n-begun-ge-NODES.false (memory c.args.words.now c.args.bytes.now)
-          (memory c.args.words.now c.args.bytes.now) _ _
-          (rw c.in-Refused.is at c.read_conditional.ensures.exact);
-    }
+  within = tt;
+  exact = arms_first c.args.text.now c.args.at c.args.depth (mark c.args.n c.args.k) c.args.begun
+      (memory c.args.words.now c.args.bytes.now) _ _
+      (rw c.in-Here.is at c.symbol_at.ensures)
+      c.if-depth-ge64.false c.if-n-begun-ge-NODES.false (memory c.args.words.now c.args.bytes.now)
+      (memory c.args.words.now c.args.bytes.now) _ _
+      (rw c.in-Refused.is at c.read_conditional.ensures.exact);
+}
 
 pub read_arms-returns-in-Absent-symbol_at : goal.read_arms-returns-in-Absent-symbol_at
 read_arms-returns-in-Absent-symbol_at t c = record {
-      within = tt;
-      exact = arms_colon c.args.text.now c.args.at c.args.depth (mark c.args.n c.args.k) c.args.begun
-          (memory c.args.words.now c.args.bytes.now) _ _
-          (rw c.in-Here.is at c.symbol_at.ensures)
-          c.if-depth-ge64.false c.if-n-begun-ge-NODES.false (memory
-          c.read_conditional.new.words
-          c.read_conditional.new.bytes) _
-          (mark c.in-Done.m c.in-Done.i)
-          (rw c.in-Done.is at c.read_conditional.ensures.exact)
-          (memory c.args.words.now c.args.bytes.now) _ _
-          (rw c.in-Absent-symbol_at.is at c.symbol_at-in-Done.ensures);
-    }
+  within = tt;
+  exact = arms_colon c.args.text.now c.args.at c.args.depth (mark c.args.n c.args.k) c.args.begun
+      (memory c.args.words.now c.args.bytes.now) _ _
+      (rw c.in-Here.is at c.symbol_at.ensures)
+      c.if-depth-ge64.false c.if-n-begun-ge-NODES.false (memory
+      c.read_conditional.new.words
+      c.read_conditional.new.bytes) _
+      (mark c.in-Done.m c.in-Done.i)
+      (rw c.in-Done.is at c.read_conditional.ensures.exact)
+      (memory c.args.words.now c.args.bytes.now) _ _
+      (rw c.in-Absent-symbol_at.is at c.symbol_at-in-Done.ensures);
+}
 
 pub read_arms-returns-in-Refused-read_conditional : goal.read_arms-returns-in-Refused-read_conditional
 read_arms-returns-in-Refused-read_conditional t c = record {
-      within = tt;
-      exact = arms_second c.args.text.now c.args.at c.args.depth (mark c.args.n c.args.k)
-          c.args.begun (memory c.args.words.now c.args.bytes.now) _ _
-          (rw c.in-Here.is at c.symbol_at.ensures)
-          c.if-depth-ge64.false c.if-n-begun-ge-NODES.false (memory
-          c.read_conditional.new.words
-          c.read_conditional.new.bytes) _
-          (mark c.in-Done.m c.in-Done.i)
-          (rw c.in-Done.is at c.read_conditional.ensures.exact) _ _
-          (rw c.in-Here-symbol_at.is at c.symbol_at-in-Done.ensures)
-          (rw c.in-Done.is at c.read_conditional.ensures.within).fewer
-          (memory c.args.words.now c.args.bytes.now)
-          (memory c.args.words.now c.args.bytes.now) _ _
-          (rw c.in-Refused-read_conditional.is at c.read_conditional-in-Here-symbol_at.ensures.exact);
-    }
+  within = tt;
+  exact = arms_second c.args.text.now c.args.at c.args.depth (mark c.args.n c.args.k)
+      c.args.begun (memory c.args.words.now c.args.bytes.now) _ _
+      (rw c.in-Here.is at c.symbol_at.ensures)
+      c.if-depth-ge64.false c.if-n-begun-ge-NODES.false (memory
+      c.read_conditional.new.words
+      c.read_conditional.new.bytes) _
+      (mark c.in-Done.m c.in-Done.i)
+      (rw c.in-Done.is at c.read_conditional.ensures.exact) _ _
+      (rw c.in-Here-symbol_at.is at c.symbol_at-in-Done.ensures)
+      (rw c.in-Done.is at c.read_conditional.ensures.within).fewer
+      (memory c.args.words.now c.args.bytes.now)
+      (memory c.args.words.now c.args.bytes.now) _ _
+      (rw c.in-Refused-read_conditional.is at c.read_conditional-in-Here-symbol_at.ensures.exact);
+}
 
 pub read_arms-returns-in-Done-read_conditional : goal.read_arms-returns-in-Done-read_conditional
-read_arms-returns-in-Done-read_conditional t c =     let g = (rw c.in-Here.is at c.symbol_at.ensures) in
+read_arms-returns-in-Done-read_conditional t c = let g = (rw c.in-Here.is at c.symbol_at.ensures) in
     let i = (rw c.in-Done.is at c.read_conditional.ensures.within) in
     let d = (rw c.in-Here-symbol_at.is at c.symbol_at-in-Done.ensures) in
     let j = (rw c.in-Done-read_conditional.is at c.read_conditional-in-Here-symbol_at.ensures.within) in
@@ -197,25 +197,25 @@ read_arms-returns-in-Done-read_conditional t c =     let g = (rw c.in-Here.is at
     }
 
 pub read_binary-read_unary-requires : goal.read_binary-read_unary-requires
-read_binary-read_unary-requires t c =    omega (arith, c.decreases, c.requires)
+read_binary-read_unary-requires t c = omega (arith, c.decreases, c.requires)
 
 pub read_binary-returns-then-level-ge7 : goal.read_binary-returns-then-level-ge7
 read_binary-returns-then-level-ge7 t c = record {
-      within = c.read_unary.ensures.within;
-      exact = binary_unary c.args.text.now c.args.at c.args.depth (mark c.args.n c.args.k)
-          c.args.begun (memory c.args.words.now c.args.bytes.now) c.args.level _
-          c.read_unary.result c.if-level-ge7.true c.requires.0
-          c.read_unary.ensures.exact;
-    }
+  within = c.read_unary.ensures.within;
+  exact = binary_unary c.args.text.now c.args.at c.args.depth (mark c.args.n c.args.k)
+      c.args.begun (memory c.args.words.now c.args.bytes.now) c.args.level _
+      c.read_unary.result c.if-level-ge7.true c.requires.0
+      c.read_unary.ensures.exact;
+}
 
 pub read_binary-overflow_add-level : goal.read_binary-overflow_add-level
 read_binary-overflow_add-level t c = omega (arith, c.if-level-ge7.false)
 
 pub read_binary-read_binary-requires : goal.read_binary-read_binary-requires
-read_binary-read_binary-requires t c =    omega (arith, c.decreases, c.requires, c.if-level-ge7.false)
+read_binary-read_binary-requires t c = omega (arith, c.decreases, c.requires, c.if-level-ge7.false)
 
 pub read_binary-read_rest-requires : goal.read_binary-read_rest-requires
-read_binary-read_rest-requires t c =    let i = (rw c.in-Done.is at c.read_binary.ensures.within) in
+read_binary-read_rest-requires t c = let i = (rw c.in-Done.is at c.read_binary.ensures.within) in
     let l1 : length c.read_binary.new.words ≡ length
     c.args.words.now = c.read_binary.auto.words in
     let l2 : length c.read_binary.new.bytes ≡ length
@@ -224,16 +224,16 @@ read_binary-read_rest-requires t c =    let i = (rw c.in-Done.is at c.read_binar
 
 pub read_binary-returns-in-Refused : goal.read_binary-returns-in-Refused
 read_binary-returns-in-Refused t c = record {
-      within = tt;
-      exact = binary_refused c.args.text.now c.args.at c.args.depth (mark c.args.n c.args.k)
-          c.args.begun (memory c.args.words.now c.args.bytes.now) c.args.level
-          (memory c.args.words.now c.args.bytes.now)
-          (memory c.args.words.now c.args.bytes.now) _ _ c.if-level-ge7.false
-          (rw c.in-Refused.is at c.read_binary.ensures.exact);
-    }
+  within = tt;
+  exact = binary_refused c.args.text.now c.args.at c.args.depth (mark c.args.n c.args.k)
+      c.args.begun (memory c.args.words.now c.args.bytes.now) c.args.level
+      (memory c.args.words.now c.args.bytes.now)
+      (memory c.args.words.now c.args.bytes.now) _ _ c.if-level-ge7.false
+      (rw c.in-Refused.is at c.read_binary.ensures.exact);
+}
 
 pub read_binary-returns-in-Done : goal.read_binary-returns-in-Done
-read_binary-returns-in-Done t c =     let i = (rw c.in-Done.is at c.read_binary.ensures.within) in
+read_binary-returns-in-Done t c = let i = (rw c.in-Done.is at c.read_binary.ensures.within) in
     record {
       within = within_from c.args.text.now c.args.at _ 1 (mark c.args.n c.args.k)
           (mark c.in-Done.m c.in-Done.i) c.args.begun
@@ -249,10 +249,10 @@ read_binary-returns-in-Done t c =     let i = (rw c.in-Done.is at c.read_binary.
     }
 
 pub read_conditional-read_binary-requires : goal.read_conditional-read_binary-requires
-read_conditional-read_binary-requires t c =    omega (arith, c.decreases, c.requires)
+read_conditional-read_binary-requires t c = omega (arith, c.decreases, c.requires)
 
 pub read_conditional-read_arms-requires : goal.read_conditional-read_arms-requires
-read_conditional-read_arms-requires t c =    let i = (rw c.in-Done.is at c.read_binary.ensures.within) in
+read_conditional-read_arms-requires t c = let i = (rw c.in-Done.is at c.read_binary.ensures.within) in
     let l1 : length c.read_binary.new.words ≡ length
     c.args.words.now = c.read_binary.auto.words in
     let l2 : length c.read_binary.new.bytes ≡ length
@@ -261,16 +261,16 @@ read_conditional-read_arms-requires t c =    let i = (rw c.in-Done.is at c.read_
 
 pub read_conditional-returns-in-Refused : goal.read_conditional-returns-in-Refused
 read_conditional-returns-in-Refused t c = record {
-      within = tt;
-      exact = conditional_refused c.args.text.now c.args.at c.args.depth (mark c.args.n c.args.k)
-          c.args.begun (memory c.args.words.now c.args.bytes.now)
-          (memory c.args.words.now c.args.bytes.now)
-          (memory c.args.words.now c.args.bytes.now) _ _
-          (rw c.in-Refused.is at c.read_binary.ensures.exact);
-    }
+  within = tt;
+  exact = conditional_refused c.args.text.now c.args.at c.args.depth (mark c.args.n c.args.k)
+      c.args.begun (memory c.args.words.now c.args.bytes.now)
+      (memory c.args.words.now c.args.bytes.now)
+      (memory c.args.words.now c.args.bytes.now) _ _
+      (rw c.in-Refused.is at c.read_binary.ensures.exact);
+}
 
 pub read_conditional-returns-in-Done : goal.read_conditional-returns-in-Done
-read_conditional-returns-in-Done t c =     let i = (rw c.in-Done.is at c.read_binary.ensures.within) in
+read_conditional-returns-in-Done t c = let i = (rw c.in-Done.is at c.read_binary.ensures.within) in
     record {
       within = within_from c.args.text.now c.args.at _ 1 (mark c.args.n c.args.k)
           (mark c.in-Done.m c.in-Done.i) c.args.begun
@@ -288,7 +288,7 @@ pub read_primary-leaf_at-requires : goal.read_primary-leaf_at-requires
 read_primary-leaf_at-requires t c = c.requires
 
 pub read_primary-returns-then-depth-ge64 : goal.read_primary-returns-then-depth-ge64
-read_primary-returns-then-depth-ge64 t c =     let i = (rw c.in-Open.is at c.leaf_at.ensures.within) in
+read_primary-returns-then-depth-ge64 t c = let i = (rw c.in-Open.is at c.leaf_at.ensures.within) in
     record {
       within = tt;
       exact = primary_deep c.args.text.now c.args.at c.args.depth (mark c.args.n c.args.k)
@@ -302,7 +302,7 @@ pub read_primary-overflow_add-depth : goal.read_primary-overflow_add-depth
 read_primary-overflow_add-depth t c = omega (arith, c.if-depth-ge64.false)
 
 pub read_primary-read_conditional-requires : goal.read_primary-read_conditional-requires
-read_primary-read_conditional-requires t c =    let i = (rw c.in-Open.is at c.leaf_at.ensures.within) in
+read_primary-read_conditional-requires t c = let i = (rw c.in-Open.is at c.leaf_at.ensures.within) in
     let l1 : length c.leaf_at.new.words ≡ length c.args.words.now =
     c.leaf_at.auto.words in
     let l2 : length c.leaf_at.new.bytes ≡ length c.args.bytes.now =
@@ -310,29 +310,29 @@ read_primary-read_conditional-requires t c =    let i = (rw c.in-Open.is at c.le
     omega (arith, c.decreases)
 
 pub read_primary-symbol_at-requires : goal.read_primary-symbol_at-requires
-read_primary-symbol_at-requires t c =    (rw c.in-Done-read_conditional.is at
+read_primary-symbol_at-requires t c = (rw c.in-Done-read_conditional.is at
     c.read_conditional.ensures.within).high
 
 pub read_primary-returns-in-Done : goal.read_primary-returns-in-Done
 read_primary-returns-in-Done t c = record {
-      within = rw c.in-Done.is at c.leaf_at.ensures.within;
-      exact = primary_leaf c.args.text.now c.args.at c.args.depth (mark c.args.n c.args.k)
-          c.args.begun (memory c.args.words.now c.args.bytes.now) _ _ _ _
-          (rw c.in-Done.is at c.leaf_at.ensures.exact);
-    }
+  within = rw c.in-Done.is at c.leaf_at.ensures.within;
+  exact = primary_leaf c.args.text.now c.args.at c.args.depth (mark c.args.n c.args.k)
+      c.args.begun (memory c.args.words.now c.args.bytes.now) _ _ _ _
+      (rw c.in-Done.is at c.leaf_at.ensures.exact);
+}
 
 pub read_primary-returns-in-Refused : goal.read_primary-returns-in-Refused
 read_primary-returns-in-Refused t c = record {
-      within = tt;
-      exact = primary_no c.args.text.now c.args.at c.args.depth (mark c.args.n c.args.k) c.args.begun
-          (memory c.args.words.now c.args.bytes.now)
-          (memory c.args.words.now c.args.bytes.now)
-          (memory c.args.words.now c.args.bytes.now) _ _
-          (rw c.in-Refused.is at c.leaf_at.ensures.exact);
-    }
+  within = tt;
+  exact = primary_no c.args.text.now c.args.at c.args.depth (mark c.args.n c.args.k) c.args.begun
+      (memory c.args.words.now c.args.bytes.now)
+      (memory c.args.words.now c.args.bytes.now)
+      (memory c.args.words.now c.args.bytes.now) _ _
+      (rw c.in-Refused.is at c.leaf_at.ensures.exact);
+}
 
 pub read_primary-returns-in-Refused-read_conditional : goal.read_primary-returns-in-Refused-read_conditional
-read_primary-returns-in-Refused-read_conditional t c =     let i = (rw c.in-Open.is at c.leaf_at.ensures.within) in
+read_primary-returns-in-Refused-read_conditional t c = let i = (rw c.in-Open.is at c.leaf_at.ensures.within) in
     record {
       within = tt;
       exact = primary_refused c.args.text.now c.args.at c.args.depth (mark c.args.n c.args.k)
@@ -345,7 +345,7 @@ read_primary-returns-in-Refused-read_conditional t c =     let i = (rw c.in-Open
     }
 
 pub read_primary-returns-in-Absent : goal.read_primary-returns-in-Absent
-read_primary-returns-in-Absent t c =     let i = (rw c.in-Open.is at c.leaf_at.ensures.within) in
+read_primary-returns-in-Absent t c = let i = (rw c.in-Open.is at c.leaf_at.ensures.within) in
     record {
       within = tt;
       exact = primary_unclosed c.args.text.now c.args.at c.args.depth (mark c.args.n c.args.k)
@@ -362,7 +362,7 @@ read_primary-returns-in-Absent t c =     let i = (rw c.in-Open.is at c.leaf_at.e
     }
 
 pub read_primary-returns-in-Here : goal.read_primary-returns-in-Here
-read_primary-returns-in-Here t c =     let i = (rw c.in-Open.is at c.leaf_at.ensures.within) in
+read_primary-returns-in-Here t c = let i = (rw c.in-Open.is at c.leaf_at.ensures.within) in
     let j = (rw c.in-Done-read_conditional.is at c.read_conditional.ensures.within) in
     let d = (rw c.in-Here.is at c.symbol_at.ensures) in
     let f2 = fewer_left c.args.text.now _ _ _ (symbol CloseParenthesis) d in
@@ -394,7 +394,7 @@ pub read_rest-overflow_add-n : goal.read_rest-overflow_add-n
 read_rest-overflow_add-n t c = omega (arith, c.requires.1.1.fits)
 
 pub read_rest-returns-then-n-begun-ge-NODES : goal.read_rest-returns-then-n-begun-ge-NODES
-read_rest-returns-then-n-begun-ge-NODES t c =     let g = (rw c.in-Here.is at c.binary_at.ensures) in
+read_rest-returns-then-n-begun-ge-NODES t c = let g = (rw c.in-Here.is at c.binary_at.ensures) in
     record {
       within = tt;
       exact = rest_full c.args.text.now c.args.at c.args.depth (mark c.args.n c.args.k) c.args.begun
@@ -403,24 +403,24 @@ read_rest-returns-then-n-begun-ge-NODES t c =     let g = (rw c.in-Here.is at c.
     }
 
 pub read_rest-overflow_add-level : goal.read_rest-overflow_add-level
-read_rest-overflow_add-level t c =    omega (arith, c.requires.0)
+read_rest-overflow_add-level t c = omega (arith, c.requires.0)
 
 pub read_rest-overflow_add-begun : goal.read_rest-overflow_add-begun
 read_rest-overflow_add-begun t c = omega (arith, c.if-n-begun-ge-NODES.false)
 
 pub read_rest-read_binary-requires : goal.read_rest-read_binary-requires
-read_rest-read_binary-requires t c =    let g = (rw c.in-Here.is at c.binary_at.ensures) in
+read_rest-read_binary-requires t c = let g = (rw c.in-Here.is at c.binary_at.ensures) in
     omega (arith, c.decreases, c.requires.0, c.if-n-begun-ge-NODES.false)
 
 pub read_rest-overflow_sub-n : goal.read_rest-overflow_sub-n
-read_rest-overflow_sub-n t c =    c.requires.1.0
+read_rest-overflow_sub-n t c = c.requires.1.0
 
 pub read_rest-overflow_sub-m : goal.read_rest-overflow_sub-m
-read_rest-overflow_sub-m t c =    (rw c.in-Done.is at
+read_rest-overflow_sub-m t c = (rw c.in-Done.is at
     c.read_binary.ensures.within).some
 
 pub read_rest-store_node-requires : goal.read_rest-store_node-requires
-read_rest-store_node-requires t c =    let i = (rw c.in-Done.is at c.read_binary.ensures.within) in
+read_rest-store_node-requires t c = let i = (rw c.in-Done.is at c.read_binary.ensures.within) in
     let l1 : length c.read_binary.new.words ≡ length c.args.words.now =
     c.read_binary.auto.words in
     let l2 : length c.read_binary.new.bytes ≡ length c.args.bytes.now =
@@ -428,12 +428,12 @@ read_rest-store_node-requires t c =    let i = (rw c.in-Done.is at c.read_binary
     omega arith
 
 pub read_rest-overflow_add-m : goal.read_rest-overflow_add-m
-read_rest-overflow_add-m t c =    let i = (rw c.in-Done.is at
+read_rest-overflow_add-m t c = let i = (rw c.in-Done.is at
     c.read_binary.ensures.within) in
     omega arith
 
 pub read_rest-read_rest-requires : goal.read_rest-read_rest-requires
-read_rest-read_rest-requires t c =    let g = (rw c.in-Here.is at c.binary_at.ensures) in
+read_rest-read_rest-requires t c = let g = (rw c.in-Here.is at c.binary_at.ensures) in
     let i = (rw c.in-Done.is at c.read_binary.ensures.within) in
     let l1 : length c.read_binary.new.words ≡ length
     c.args.words.now = c.read_binary.auto.words in
@@ -452,22 +452,22 @@ read_rest-read_rest-requires t c =    let g = (rw c.in-Here.is at c.binary_at.en
 
 pub read_rest-returns-in-Absent : goal.read_rest-returns-in-Absent
 read_rest-returns-in-Absent t c = record {
-      within = record {
-        low = omega arith;
-        high = c.requires.1.1.place;
-        grows = omega arith;
-        some = c.requires.1.0;
-        fits = c.requires.1.1.fits;
-        short = c.requires.1.1.short;
-        fewer = omega arith;
-      };
-      exact = rest_stop c.args.text.now c.args.at c.args.depth (mark c.args.n c.args.k) c.args.begun
-          (memory c.args.words.now c.args.bytes.now) c.args.level
-          (rw c.in-Absent.is at c.binary_at.ensures);
-    }
+  within = record {
+    low = omega arith;
+    high = c.requires.1.1.place;
+    grows = omega arith;
+    some = c.requires.1.0;
+    fits = c.requires.1.1.fits;
+    short = c.requires.1.1.short;
+    fewer = omega arith;
+  };
+  exact = rest_stop c.args.text.now c.args.at c.args.depth (mark c.args.n c.args.k) c.args.begun
+      (memory c.args.words.now c.args.bytes.now) c.args.level
+      (rw c.in-Absent.is at c.binary_at.ensures);
+}
 
 pub read_rest-returns-in-Refused : goal.read_rest-returns-in-Refused
-read_rest-returns-in-Refused t c =     let g = (rw c.in-Here.is at c.binary_at.ensures) in
+read_rest-returns-in-Refused t c = let g = (rw c.in-Here.is at c.binary_at.ensures) in
     record {
       within = tt;
       exact = rest_refused c.args.text.now c.args.at c.args.depth (mark c.args.n c.args.k)
@@ -479,7 +479,7 @@ read_rest-returns-in-Refused t c =     let g = (rw c.in-Here.is at c.binary_at.e
     }
 
 pub read_rest-returns-in-Done : goal.read_rest-returns-in-Done
-read_rest-returns-in-Done t c =     let g = (rw c.in-Here.is at c.binary_at.ensures) in
+read_rest-returns-in-Done t c = let g = (rw c.in-Here.is at c.binary_at.ensures) in
     let i = (rw c.in-Done.is at c.read_binary.ensures.within) in
     let f1 = fewer_left c.args.text.now _ _ _ (operator c.in-Here.j) g.1 in
     record {
@@ -502,28 +502,28 @@ pub read_unary-unary_at-requires : goal.read_unary-unary_at-requires
 read_unary-unary_at-requires t c = c.requires.place
 
 pub read_unary-read_primary-requires : goal.read_unary-read_primary-requires
-read_unary-read_primary-requires t c =    omega (arith, c.decreases, c.requires)
+read_unary-read_primary-requires t c = omega (arith, c.decreases, c.requires)
 
 pub read_unary-returns-then-depth-ge64 : goal.read_unary-returns-then-depth-ge64
 read_unary-returns-then-depth-ge64 t c = record {
-      within = tt;
-      exact = unary_deep c.args.text.now c.args.at c.args.depth (mark c.args.n c.args.k) c.args.begun
-          (memory c.args.words.now c.args.bytes.now) c.in-Here.o _ _
-          (rw c.in-Here.is at c.unary_at.ensures)
-          (memory c.args.words.now c.args.bytes.now) c.if-depth-ge64.true;
-    }
+  within = tt;
+  exact = unary_deep c.args.text.now c.args.at c.args.depth (mark c.args.n c.args.k) c.args.begun
+      (memory c.args.words.now c.args.bytes.now) c.in-Here.o _ _
+      (rw c.in-Here.is at c.unary_at.ensures)
+      (memory c.args.words.now c.args.bytes.now) c.if-depth-ge64.true;
+}
 
 pub read_unary-overflow_add-n : goal.read_unary-overflow_add-n
 read_unary-overflow_add-n t c = omega (arith, c.requires.fits)
 
 pub read_unary-returns-then-n-begun-ge-NODES : goal.read_unary-returns-then-n-begun-ge-NODES
 read_unary-returns-then-n-begun-ge-NODES t c = record {
-      within = tt;
-      exact = unary_full c.args.text.now c.args.at c.args.depth (mark c.args.n c.args.k) c.args.begun
-          (memory c.args.words.now c.args.bytes.now) c.in-Here.o _ _
-          (rw c.in-Here.is at c.unary_at.ensures)
-          (memory c.args.words.now c.args.bytes.now) c.if-depth-ge64.false c.if-n-begun-ge-NODES.true;
-    }
+  within = tt;
+  exact = unary_full c.args.text.now c.args.at c.args.depth (mark c.args.n c.args.k) c.args.begun
+      (memory c.args.words.now c.args.bytes.now) c.in-Here.o _ _
+      (rw c.in-Here.is at c.unary_at.ensures)
+      (memory c.args.words.now c.args.bytes.now) c.if-depth-ge64.false c.if-n-begun-ge-NODES.true;
+}
 
 pub read_unary-overflow_add-depth : goal.read_unary-overflow_add-depth
 read_unary-overflow_add-depth t c = omega (arith, c.if-depth-ge64.false)
@@ -532,15 +532,15 @@ pub read_unary-overflow_add-begun : goal.read_unary-overflow_add-begun
 read_unary-overflow_add-begun t c = omega (arith, c.if-n-begun-ge-NODES.false)
 
 pub read_unary-read_unary-requires : goal.read_unary-read_unary-requires
-read_unary-read_unary-requires t c =    let g = (rw c.in-Here.is at c.unary_at.ensures) in
+read_unary-read_unary-requires t c = let g = (rw c.in-Here.is at c.unary_at.ensures) in
     omega (arith, c.decreases, c.if-n-begun-ge-NODES.false)
 
 pub read_unary-overflow_sub-m : goal.read_unary-overflow_sub-m
-read_unary-overflow_sub-m t c =    (rw c.in-Done.is at
+read_unary-overflow_sub-m t c = (rw c.in-Done.is at
     c.read_unary.ensures.within).some
 
 pub read_unary-store_node-requires : goal.read_unary-store_node-requires
-read_unary-store_node-requires t c =    let i = (rw c.in-Done.is at c.read_unary.ensures.within) in
+read_unary-store_node-requires t c = let i = (rw c.in-Done.is at c.read_unary.ensures.within) in
     let l1 : length c.read_unary.new.words ≡ length c.args.words.now =
     c.read_unary.auto.words in
     let l2 : length c.read_unary.new.bytes ≡ length c.args.bytes.now =
@@ -548,32 +548,32 @@ read_unary-store_node-requires t c =    let i = (rw c.in-Done.is at c.read_unary
     omega arith
 
 pub read_unary-overflow_add-result : goal.read_unary-overflow_add-result
-read_unary-overflow_add-result t c =    let i = (rw c.in-Done.is at
+read_unary-overflow_add-result t c = let i = (rw c.in-Done.is at
     c.read_unary.ensures.within) in
     omega arith
 
 pub read_unary-returns-in-Absent : goal.read_unary-returns-in-Absent
 read_unary-returns-in-Absent t c = record {
-      within = c.read_primary.ensures.within;
-      exact = unary_primary c.args.text.now c.args.at c.args.depth (mark c.args.n c.args.k)
-          c.args.begun (memory c.args.words.now c.args.bytes.now) _ c.read_primary.result
-          (rw c.in-Absent.is at c.unary_at.ensures)
-          c.read_primary.ensures.exact;
-    }
+  within = c.read_primary.ensures.within;
+  exact = unary_primary c.args.text.now c.args.at c.args.depth (mark c.args.n c.args.k)
+      c.args.begun (memory c.args.words.now c.args.bytes.now) _ c.read_primary.result
+      (rw c.in-Absent.is at c.unary_at.ensures)
+      c.read_primary.ensures.exact;
+}
 
 pub read_unary-returns-in-Refused : goal.read_unary-returns-in-Refused
 read_unary-returns-in-Refused t c = record {
-      within = tt;
-      exact = unary_refused c.args.text.now c.args.at c.args.depth (mark c.args.n c.args.k)
-          c.args.begun (memory c.args.words.now c.args.bytes.now) c.in-Here.o _ _
-          (rw c.in-Here.is at c.unary_at.ensures)
-          c.if-depth-ge64.false c.if-n-begun-ge-NODES.false (memory c.args.words.now c.args.bytes.now)
-          (memory c.args.words.now c.args.bytes.now) _ _
-          (rw c.in-Refused.is at c.read_unary.ensures.exact);
-    }
+  within = tt;
+  exact = unary_refused c.args.text.now c.args.at c.args.depth (mark c.args.n c.args.k)
+      c.args.begun (memory c.args.words.now c.args.bytes.now) c.in-Here.o _ _
+      (rw c.in-Here.is at c.unary_at.ensures)
+      c.if-depth-ge64.false c.if-n-begun-ge-NODES.false (memory c.args.words.now c.args.bytes.now)
+      (memory c.args.words.now c.args.bytes.now) _ _
+      (rw c.in-Refused.is at c.read_unary.ensures.exact);
+}
 
 pub read_unary-returns-in-Done : goal.read_unary-returns-in-Done
-read_unary-returns-in-Done t c =     let g = (rw c.in-Here.is at c.unary_at.ensures) in
+read_unary-returns-in-Done t c = let g = (rw c.in-Here.is at c.unary_at.ensures) in
     let i = (rw c.in-Done.is at c.read_unary.ensures.within) in
     let f1 = fewer_left c.args.text.now _ _ _ (unary_token c.in-Here.o) g in
     record {

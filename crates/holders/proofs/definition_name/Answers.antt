@@ -6,20 +6,20 @@ use borrow.Author.Rules.{rules}
 use Rattle.holders.proofs.definition_name.Goals as goal
 
 pub offset-requires : goal.offset-requires
-offset-requires c =    holder_inside c.args.words.now c.args.node c.in-Definition.j
+offset-requires c = holder_inside c.args.words.now c.args.node c.in-Definition.j
     (sym c.definition_of.ensures ∙ c.in-Definition.is)
 
 pub name_length-requires : goal.name_length-requires
-name_length-requires c =    holder_inside c.args.words.now
+name_length-requires c = holder_inside c.args.words.now
     c.args.node c.in-Definition.j
     (sym c.definition_of.ensures ∙ c.in-Definition.is)
 
 pub returns-in-Nothing : goal.returns-in-Nothing
-returns-in-Nothing c =    ap (holder_name c.args.words.now c.args.bytes.now)
+returns-in-Nothing c = ap (holder_name c.args.words.now c.args.bytes.now)
     (sym c.in-Nothing.is ∙ c.definition_of.ensures)
 
 pub returns-in-Definition : goal.returns-in-Definition
-returns-in-Definition c =    c.part.ensures
+returns-in-Definition c = c.part.ensures
     ∙ (rw (c.offset.ensures, c.name_length.ensures) (ap (holder_name
     c.args.words.now c.args.bytes.now)
     (sym c.in-Definition.is ∙ c.definition_of.ensures)))

@@ -8,7 +8,7 @@ use Rattle.ad.specs.Stored.{length_at, root_at}
 use Rattle.ad.specs.Laws.Content.{size_some}
 use Rattle.well_formed.specs.WellFormed.{Holds}
 use Rattle.well_formed.specs.Laws.Bounds.{bounded}
-use Rattle.syntax.specs.Laws.FrontTokens.{name_some}
+use Rattle.syntax.proofs.Laws.FrontTokens.{name_some}
 use Rattle.well_formed.specs.Laws.Definitions.{Table, table_row}
 use Rattle.well_formed.specs.Laws.Whole.{holds_table, stop_zero, holds_long}
 use Rattle.holders.specs.Holders.{owner_from, owner, holder_from, holder}

@@ -7,7 +7,7 @@ use borrow.Author.Rules.{rules}
 use Rattle.identity.proofs.same.Goals as goal
 
 pub returns-then-side : goal.returns-then-side
-returns-then-side c =    rw (c.in-String.is, c.if-side.true)
+returns-then-side c = rw (c.in-String.is, c.if-side.true)
     (c.is_string.ensures
     ∙ ap (λ (s : List ℕ). same_string c.args.first.now c.args.second.now s c.args.b)
     c.cut-s.ensures.result_value)
@@ -28,7 +28,7 @@ pub returns-in-Real : goal.returns-in-Real
 returns-in-Real c = rw c.in-Real.is c.is_real.ensures
 
 pub returns-else-side : goal.returns-else-side
-returns-else-side c =    rw (c.in-String.is, c.if-side.false)
+returns-else-side c = rw (c.in-String.is, c.if-side.false)
     (c.is_string-in-String.ensures
     ∙ ap (λ (s : List ℕ). same_string c.args.first.now c.args.second.now s c.args.b)
     c.cut-s-in-String.ensures.result_value)

@@ -7,7 +7,7 @@ use Rattle.leaf_printer.proofs.put_boolean.Goals as goal
 
 pub put-requires : goal.put-requires
 unfolding literal_text bytes
-put-requires c =    let h = rw c.if-x-eq1.true at c.requires in
+put-requires c = let h = rw c.if-x-eq1.true at c.requires in
     omega arith
 
 pub returns-then-x-eq1 : goal.returns-then-x-eq1
@@ -16,7 +16,7 @@ returns-then-x-eq1 c = rw c.if-x-eq1.true c.put.ensures
 
 pub put-requires-2 : goal.put-requires-2
 unfolding literal_text bytes
-put-requires-2 c =    let h = rw (ne_eqb _ _ c.if-x-eq1.false) at
+put-requires-2 c = let h = rw (ne_eqb _ _ c.if-x-eq1.false) at
     c.requires in
     omega arith
 

@@ -7,7 +7,7 @@ use borrow.Author.Rules.{rules}
 use Rattle.leaves.proofs.leaf_at.Goals as goal
 
 pub name_leaf-requires : goal.name_leaf-requires
-name_leaf-requires c =    let t = (rw c.in-Word.is at
+name_leaf-requires c = let t = (rw c.in-Word.is at
     c.token_at.ensures) in
     record {
       low = t.span.1;
@@ -19,7 +19,7 @@ name_leaf-requires c =    let t = (rw c.in-Word.is at
     }
 
 pub string_leaf-requires : goal.string_leaf-requires
-string_leaf-requires c =    let t = (rw c.in-String.is at c.token_at.ensures) in
+string_leaf-requires c = let t = (rw c.in-String.is at c.token_at.ensures) in
     record {
       low = t.span.1;
       high = t.span.2;
@@ -32,7 +32,7 @@ string_leaf-requires c =    let t = (rw c.in-String.is at c.token_at.ensures) in
     }
 
 pub other_leaf-requires : goal.other_leaf-requires
-other_leaf-requires c =    let t = (rw c.in-Symbol.is at c.token_at.ensures) in
+other_leaf-requires c = let t = (rw c.in-Symbol.is at c.token_at.ensures) in
     record {
       place = t.span.2;
       fits = c.requires.fits;
@@ -42,7 +42,7 @@ other_leaf-requires c =    let t = (rw c.in-Symbol.is at c.token_at.ensures) in
     }
 
 pub returns-then-code-eq26 : goal.returns-then-code-eq26
-returns-then-code-eq26 c =     let t = (rw c.in-Symbol.is at c.token_at.ensures) in
+returns-then-code-eq26 c = let t = (rw c.in-Symbol.is at c.token_at.ensures) in
     let g = symbol_is c.args.text.now c.args.at _ _ _ Other
     (stands_of c.args.text.now c.args.at _ _ _ t.span.0 t.span.1 t.span.2 t.means_it)
     (sym c.symbol_code-code.ensures ∙ c.if-code-eq26.true) in
@@ -56,7 +56,7 @@ returns-then-code-eq26 c =     let t = (rw c.in-Symbol.is at c.token_at.ensures)
     }
 
 pub returns-then-code-eq19 : goal.returns-then-code-eq19
-returns-then-code-eq19 c =     let t = (rw c.in-Symbol.is at c.token_at.ensures) in
+returns-then-code-eq19 c = let t = (rw c.in-Symbol.is at c.token_at.ensures) in
     let g = symbol_is c.args.text.now c.args.at _ _ _ OpenParenthesis
     (stands_of c.args.text.now c.args.at _ _ _ t.span.0 t.span.1 t.span.2 t.means_it)
     (sym c.symbol_code-code.ensures ∙ c.if-code-eq19.true) in
@@ -74,24 +74,24 @@ returns-then-code-eq19 c =     let t = (rw c.in-Symbol.is at c.token_at.ensures)
 
 pub returns-in-End : goal.returns-in-End
 returns-in-End c = record {
-      within = tt;
-      exact = leaf_end c.args.text.now c.args.at (mark c.args.n c.args.k) c.args.begun
-          (memory c.args.words.now c.args.bytes.now)
-          (memory c.args.words.now c.args.bytes.now) _
-          (rw c.in-End.is at c.token_at.ensures).means_it;
-    }
+  within = tt;
+  exact = leaf_end c.args.text.now c.args.at (mark c.args.n c.args.k) c.args.begun
+      (memory c.args.words.now c.args.bytes.now)
+      (memory c.args.words.now c.args.bytes.now) _
+      (rw c.in-End.is at c.token_at.ensures).means_it;
+}
 
 pub returns-in-Bad : goal.returns-in-Bad
 returns-in-Bad c = record {
-      within = tt;
-      exact = leaf_bad c.args.text.now c.args.at (mark c.args.n c.args.k) c.args.begun
-          (memory c.args.words.now c.args.bytes.now)
-          (memory c.args.words.now c.args.bytes.now) _ _
-          (rw c.in-Bad.is at c.token_at.ensures).means_it;
-    }
+  within = tt;
+  exact = leaf_bad c.args.text.now c.args.at (mark c.args.n c.args.k) c.args.begun
+      (memory c.args.words.now c.args.bytes.now)
+      (memory c.args.words.now c.args.bytes.now) _ _
+      (rw c.in-Bad.is at c.token_at.ensures).means_it;
+}
 
 pub returns-in-Word : goal.returns-in-Word
-returns-in-Word c =     let t = (rw c.in-Word.is at c.token_at.ensures) in
+returns-in-Word c = let t = (rw c.in-Word.is at c.token_at.ensures) in
     record {
       within = own_within c.args.text.now c.args.at _ _ (mark c.args.n c.args.k) c.args.begun
           (memory c.args.words.now c.args.bytes.now) _ c.name_leaf.result
@@ -104,7 +104,7 @@ returns-in-Word c =     let t = (rw c.in-Word.is at c.token_at.ensures) in
     }
 
 pub returns-in-Constant : goal.returns-in-Constant
-returns-in-Constant c =     let t = (rw c.in-Constant.is at c.token_at.ensures) in
+returns-in-Constant c = let t = (rw c.in-Constant.is at c.token_at.ensures) in
     record {
       within = constant_within c.args.text.now c.args.at _ _ (mark c.args.n c.args.k) c.args.begun
           (memory c.args.words.now c.args.bytes.now) _ _ c.constant_leaf.result
@@ -117,7 +117,7 @@ returns-in-Constant c =     let t = (rw c.in-Constant.is at c.token_at.ensures) 
     }
 
 pub returns-in-String : goal.returns-in-String
-returns-in-String c =     let t = (rw c.in-String.is at c.token_at.ensures) in
+returns-in-String c = let t = (rw c.in-String.is at c.token_at.ensures) in
     let g = stands_of c.args.text.now c.args.at _ _ _ t.span.0 (omega (arith, t.span.1))
     t.span.2 t.means_it in
     record {
@@ -131,15 +131,15 @@ returns-in-String c =     let t = (rw c.in-String.is at c.token_at.ensures) in
 
 pub returns-in-Operator : goal.returns-in-Operator
 returns-in-Operator c = record {
-      within = tt;
-      exact = leaf_operator c.args.text.now c.args.at (mark c.args.n c.args.k) c.args.begun
-          (memory c.args.words.now c.args.bytes.now)
-          (memory c.args.words.now c.args.bytes.now) _ _ _
-          (rw c.in-Operator.is at c.token_at.ensures).means_it;
-    }
+  within = tt;
+  exact = leaf_operator c.args.text.now c.args.at (mark c.args.n c.args.k) c.args.begun
+      (memory c.args.words.now c.args.bytes.now)
+      (memory c.args.words.now c.args.bytes.now) _ _ _
+      (rw c.in-Operator.is at c.token_at.ensures).means_it;
+}
 
 pub returns-else-code-eq19 : goal.returns-else-code-eq19
-returns-else-code-eq19 c =     let t = (rw c.in-Symbol.is at c.token_at.ensures) in
+returns-else-code-eq19 c = let t = (rw c.in-Symbol.is at c.token_at.ensures) in
     record {
       within = tt;
       exact = leaf_symbol c.args.text.now c.args.at (mark c.args.n c.args.k) c.args.begun

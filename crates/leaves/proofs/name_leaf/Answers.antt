@@ -7,11 +7,11 @@ use borrow.Author.Rules.{rules}
 use Rattle.leaves.proofs.name_leaf.Goals as goal
 
 pub returns : goal.returns
-returns c =    let l = (length-slice c.args.p c.args.q c.args.text.now c.requires.high) in (
-      omega arith,
-      refl,
-      refl,
-      ap (◌+◌ c.args.k) (sym l),
-      text_stored c.args.kind c.args.n c.args.k _ (slice c.args.p c.args.q c.args.text.now) c.args.words.now
-          c.args.bytes.now _ _ l c.store_node.ensures c.copy.ensures,
-    )
+returns c = let l = (length-slice c.args.p c.args.q c.args.text.now c.requires.high) in (
+  omega arith,
+  refl,
+  refl,
+  ap (◌+◌ c.args.k) (sym l),
+  text_stored c.args.kind c.args.n c.args.k _ (slice c.args.p c.args.q c.args.text.now) c.args.words.now
+      c.args.bytes.now _ _ l c.store_node.ensures c.copy.ensures,
+)

@@ -12,11 +12,11 @@ returns-in-Error c = rw c.in-Error.is c.store_node-in-Error.ensures
 
 pub returns-then-b : goal.returns-then-b
 unfolding literal_node
-returns-then-b c =    rw (c.in-Boolean.is, c.if-b.true) c.store_node-then-b.ensures
+returns-then-b c = rw (c.in-Boolean.is, c.if-b.true) c.store_node-then-b.ensures
 
 pub returns-else-b : goal.returns-else-b
 unfolding literal_node
-returns-else-b c =    rw (c.in-Boolean.is, c.if-b.false) c.store_node-else-b.ensures
+returns-else-b c = rw (c.in-Boolean.is, c.if-b.false) c.store_node-else-b.ensures
 
 pub returns-in-Integer : goal.returns-in-Integer
 unfolding literal_node

@@ -10,7 +10,7 @@ pub returns-then-name-eq0 : goal.returns-then-name-eq0
 returns-then-name-eq0 c = name_empty c.args.name.now c.if-name-eq0.true
 
 pub returns : goal.returns
-returns c =    c.both-2.ensures
+returns c = c.both-2.ensures
     ∙ ands (c.both-starts.ensures
     ∙ ands c.starts_name.ensures c.go_on.ensures) (c.both.ensures
     ∙ ap (λ (t : Bool). leb (length c.args.name.now) 64 && t) (ap not c.is_reserved.ensures))

@@ -6,7 +6,7 @@ use Rattle.lexemes.proofs.is_reserved.Goals as goal
 
 pub returns : goal.returns
 unfolding bytes
-returns c =    c.either-3.ensures
+returns c = c.either-3.ensures
     ∙ ors (c.either.ensures
     ∙ ors (c.either-a.ensures
     ∙ ors c.same_name.ensures c.same_name-2.ensures)

@@ -11,13 +11,13 @@ pub loop-i-init : goal.loop-i-init
 loop-i-init c = (omega arith, omega arith, refl)
 
 pub loop-i-preserved : goal.loop-i-preserved
-loop-i-preserved c =    (
-      omega arith,
-      omega arith,
-      c.loop-i.invariant.2
-          ∙ skip_step c.args.text.now c.loop-i.i (omega arith)
-          (sym c.is_blank.ensures ∙ c.if-is_blank.true),
-    )
+loop-i-preserved c = (
+  omega arith,
+  omega arith,
+  c.loop-i.invariant.2
+      ∙ skip_step c.args.text.now c.loop-i.i (omega arith)
+      (sym c.is_blank.ensures ∙ c.if-is_blank.true),
+)
 
 pub returns-else-is_blank : goal.returns-else-is_blank
 returns-else-is_blank c = record {

@@ -4,14 +4,14 @@ use borrow.Author.Rules.{rules}
 use Rattle.lexer.proofs.string.Goals as goal
 
 pub returns-in-Broken : goal.returns-in-Broken
-returns-in-Broken c =    record {
-      means_it = string_broken c.args.text.now c.args.p
-          (rw c.in-Broken.is at c.string_end.ensures);
-      span = tt;
-    }
+returns-in-Broken c = record {
+  means_it = string_broken c.args.text.now c.args.p
+      (rw c.in-Broken.is at c.string_end.ensures);
+  span = tt;
+}
 
 pub returns-then-n-gt-STRING_BYTES : goal.returns-then-n-gt-STRING_BYTES
-returns-then-n-gt-STRING_BYTES c =    let b = (rw c.in-Closed.is at c.string_end.ensures) in
+returns-then-n-gt-STRING_BYTES c = let b = (rw c.in-Closed.is at c.string_end.ensures) in
     record {
       means_it = string_long c.args.text.now c.args.p _ _
           b.0 b.1 b.2 c.if-n-gt-STRING_BYTES.true;
@@ -19,7 +19,7 @@ returns-then-n-gt-STRING_BYTES c =    let b = (rw c.in-Closed.is at c.string_end
     }
 
 pub returns-else-n-gt-STRING_BYTES : goal.returns-else-n-gt-STRING_BYTES
-returns-else-n-gt-STRING_BYTES c =    let b = (rw c.in-Closed.is at c.string_end.ensures) in
+returns-else-n-gt-STRING_BYTES c = let b = (rw c.in-Closed.is at c.string_end.ensures) in
     record {
       means_it = string_token c.args.text.now c.args.p _ _ b.0 b.1 b.2 c.if-n-gt-STRING_BYTES.false;
       span = (

@@ -1,5 +1,5 @@
 use mathlib.Core.Path.{sym, ◌∙◌}
-use Rattle.syntax.specs.Laws.FrontTokens.{starts_continues}
+use Rattle.syntax.proofs.Laws.FrontTokens.{starts_continues}
 use Rattle.lexer.proofs.Laws.{scan_end, scan_name, scan_number, scan_string, scan_symbol}
 use borrow.Author.Rules.{rules}
 use Rattle.lexer.proofs.token_from.Goals as goal
@@ -18,13 +18,13 @@ name-requires c = record {
 }
 
 pub returns-then-starts_name : goal.returns-then-starts_name
-returns-then-starts_name c =    record {
-      means_it = scan_name c.args.text.now c.args.p
-          c.if-text-p.false (c.requires.stop c.if-text-p.false)
-          (sym c.starts_name.ensures ∙ c.if-starts_name.true)
-          ∙ c.name.ensures.means_it;
-      span = c.name.ensures.span;
-    }
+returns-then-starts_name c = record {
+  means_it = scan_name c.args.text.now c.args.p
+      c.if-text-p.false (c.requires.stop c.if-text-p.false)
+      (sym c.starts_name.ensures ∙ c.if-starts_name.true)
+      ∙ c.name.ensures.means_it;
+  span = c.name.ensures.span;
+}
 
 pub number-requires : goal.number-requires
 number-requires c = record {
@@ -33,31 +33,31 @@ number-requires c = record {
 }
 
 pub returns-then-is_digit : goal.returns-then-is_digit
-returns-then-is_digit c =    record {
-      means_it = scan_number c.args.text.now c.args.p
-          c.if-text-p.false (c.requires.stop c.if-text-p.false)
-          (sym c.starts_name.ensures ∙ c.if-starts_name.false)
-          (sym c.is_digit.ensures ∙ c.if-is_digit.true)
-          ∙ c.number.ensures.means_it;
-      span = c.number.ensures.span;
-    }
+returns-then-is_digit c = record {
+  means_it = scan_number c.args.text.now c.args.p
+      c.if-text-p.false (c.requires.stop c.if-text-p.false)
+      (sym c.starts_name.ensures ∙ c.if-starts_name.false)
+      (sym c.is_digit.ensures ∙ c.if-is_digit.true)
+      ∙ c.number.ensures.means_it;
+  span = c.number.ensures.span;
+}
 
 pub returns-then-b-eq34 : goal.returns-then-b-eq34
-returns-then-b-eq34 c =    record {
-      means_it = scan_string c.args.text.now c.args.p
-          c.if-text-p.false (c.requires.stop c.if-text-p.false)
-          (sym c.starts_name.ensures ∙ c.if-starts_name.false)
-          (sym c.is_digit.ensures ∙ c.if-is_digit.false) c.if-b-eq34.true
-          ∙ c.string.ensures.means_it;
-      span = c.string.ensures.span;
-    }
+returns-then-b-eq34 c = record {
+  means_it = scan_string c.args.text.now c.args.p
+      c.if-text-p.false (c.requires.stop c.if-text-p.false)
+      (sym c.starts_name.ensures ∙ c.if-starts_name.false)
+      (sym c.is_digit.ensures ∙ c.if-is_digit.false) c.if-b-eq34.true
+      ∙ c.string.ensures.means_it;
+  span = c.string.ensures.span;
+}
 
 pub returns : goal.returns
-returns c =    record {
-      means_it = scan_symbol c.args.text.now c.args.p
-          c.if-text-p.false (c.requires.stop c.if-text-p.false)
-          (sym c.starts_name.ensures ∙ c.if-starts_name.false)
-          (sym c.is_digit.ensures ∙ c.if-is_digit.false) c.if-b-eq34.false
-          ∙ c.symbol_token.ensures.means_it;
-      span = c.symbol_token.ensures.span;
-    }
+returns c = record {
+  means_it = scan_symbol c.args.text.now c.args.p
+      c.if-text-p.false (c.requires.stop c.if-text-p.false)
+      (sym c.starts_name.ensures ∙ c.if-starts_name.false)
+      (sym c.is_digit.ensures ∙ c.if-is_digit.false) c.if-b-eq34.false
+      ∙ c.symbol_token.ensures.means_it;
+  span = c.symbol_token.ensures.span;
+}

@@ -14,12 +14,12 @@ pub returns-then-has : goal.returns-then-has
 returns-then-has c = c.loop-i.invariant
 
 pub loop-i-preserved : goal.loop-i-preserved
-loop-i-preserved c =    (
-      search rules,
-      c.loop-i.invariant.1
-          ∙ block_passed c.args.byte c.args.text.now c.loop-i.i _ (omega arith) (omega arith)
-          (c.has.ensures c.if-has.false),
-    )
+loop-i-preserved c = (
+  search rules,
+  c.loop-i.invariant.1
+      ∙ block_passed c.args.byte c.args.text.now c.loop-i.i _ (omega arith) (omega arith)
+      (c.has.ensures c.if-has.false),
+)
 
 pub returns : goal.returns
 returns c = c.loop-i.invariant

@@ -4,7 +4,7 @@ use Rattle.std.proofs.Common.{sym, ap, subst, inl, inr, le_refl, arith, eq-eqb, 
 use Rattle.text.specs.Strings.{same_name}
 use Rattle.syntax.specs.Bounds.{max_nodes, max_definitions}
 use Rattle.graph.specs.Members.{◌∈◌, here, there, Each}
-use Rattle.graph.specs.Laws.Members.{mem_nil, mem_cons}
+use Rattle.graph.proofs.Laws.Members.{mem_nil, mem_cons}
 use Rattle.ad.specs.Stored.{leading, node_count, definition_count, kind_at, offset_at, length_at, root_at, bytes_at, find_from, find, roots_from, arity}
 
 -- ---- what stands before the first 0

@@ -14,7 +14,7 @@ use Rattle.syntax.specs.declared.Unary.{Unary}
 use Rattle.syntax.specs.declared.Unary.TheVariants.{Not, Plus, Minus}
 use Rattle.ad.specs.Layout.{unary_kind, binary_kind, scope_kind, node, literal_node, expr_bytes, expr_nodes, ad_nodes, ad_definitions, Named, node_words, ad_words, stored_words}
 use Rattle.graph.specs.Members.{◌∈◌, Each}
-use Rattle.graph.specs.Laws.Members.{mem_nil, mem_cons}
+use Rattle.graph.proofs.Laws.Members.{mem_nil, mem_cons}
 use Rattle.graph.specs.Graph.{Sound}
 use Rattle.ad.specs.Stored.{leading, kind_at, operand_at, node_count, definition_count, length_at, root_at, operands, arity}
 use Rattle.links.specs.Pair.{StoredAd, pair_graph}

@@ -12,7 +12,7 @@ use Rattle.std.proofs.lemmas.List.{length-map}
 use borrow.Author.Tests.{eq-eqb, le-ltb, lt-ltb, ltb-true, ne_eqb}
 use Rattle.text.specs.Laws.Booleans.{neither}
 use Rattle.graph.specs.Members.{◌∈◌}
-use Rattle.graph.specs.Laws.Members.{at_mem}
+use Rattle.graph.proofs.Laws.Members.{at_mem}
 use Rattle.graph.specs.Graph.{Graph}
 use Rattle.graph.specs.Transition.{led, needed, named, marked}
 use Rattle.ad.specs.Stored.{kind_at, operand_at, name_at, node_count, arity, operands, is_own, is_other, is_reference, find}

@@ -6,7 +6,7 @@ use mathlib.Core.List.{List, [], ◌∷◌, ◌++◌, append_assoc, append-nil}
 use Rattle.std.proofs.Math.ListN.{get_or}
 use Rattle.std.proofs.lemmas.List.{length-map}
 use Rattle.graph.specs.Members.{◌∈◌}
-use Rattle.graph.specs.Laws.Members.{at_mem}
+use Rattle.graph.proofs.Laws.Members.{at_mem}
 use Rattle.graph.specs.Transition.{marked}
 use Rattle.ad.specs.Stored.{find}
 use Rattle.links.specs.Pair.{numbered, roots_of, requirements, rank, pair_graph}

@@ -15,7 +15,7 @@ use borrow.Author.Tests.{le-ltb, lt-ltb, ltb-true}
 use Rattle.text.specs.Laws.Booleans.{and_left}
 use Rattle.syntax.specs.Bounds.{max_nodes}
 use Rattle.graph.specs.Members.{◌∈◌, here, there, Each}
-use Rattle.graph.specs.Laws.Members.{mem_nil, mem_cons, mem_append, Sides, room_sides}
+use Rattle.graph.proofs.Laws.Members.{mem_nil, mem_cons, mem_append, Sides, room_sides}
 use Rattle.graph.specs.Graph.{Graph, Node, Sound}
 use Rattle.ad.specs.Stored.{kind_at, node_count, definition_count, is_own, is_other, operands, name_at, root_at, find, roots_from}
 use Rattle.links.specs.Pair.{numbered, linked, inside, across, links_from, refers_at, both, roots_of, requirements, rank, pair_graph}

@@ -5,13 +5,13 @@ use Rattle.listing.proofs.begin.Goals as goal
 
 pub returns-then-read-eq2 : goal.returns-then-read-eq2
 returns-then-read-eq2 c = record {
-      ls_after = λ G ta fl ls a. begin_omit a _ ta _ fl ls (sym c.read.ensures ∙ c.if-read-eq2.true);
-      kept = refl;
-    }
+  ls_after = λ G ta fl ls a. begin_omit a _ ta _ fl ls (sym c.read.ensures ∙ c.if-read-eq2.true);
+  kept = refl;
+}
 
 pub returns : goal.returns
 returns c = record {
-      ls_after = λ G ta fl ls a. rw c.enter.ensures (begin_enter a _ ta _ fl ls c.requires.1 c.requires.2
-          (λ e. c.if-read-eq2.false (c.read.ensures ∙ e)));
-      kept = refl;
-    }
+  ls_after = λ G ta fl ls a. rw c.enter.ensures (begin_enter a _ ta _ fl ls c.requires.1 c.requires.2
+      (λ e. c.if-read-eq2.false (c.read.ensures ∙ e)));
+  kept = refl;
+}

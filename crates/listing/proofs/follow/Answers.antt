@@ -5,14 +5,14 @@ use Rattle.listing.proofs.follow.Goals as goal
 
 pub returns-then-read-eq2 : goal.returns-then-read-eq2
 returns-then-read-eq2 c = record {
-      ls_after = λ G ta fl ls a. rw c.write.ensures
-          (follow_pass a _ _ ls c.requires.0 c.requires.3 (sym c.read.ensures ∙ c.if-read-eq2.true));
-      kept = refl;
-    }
+  ls_after = λ G ta fl ls a. rw c.write.ensures
+      (follow_pass a _ _ ls c.requires.0 c.requires.3 (sym c.read.ensures ∙ c.if-read-eq2.true));
+  kept = refl;
+}
 
 pub returns : goal.returns
 returns c = record {
-      ls_after = λ G ta fl ls a. rw c.enter.ensures
-          (follow_enter a _ _ ls c.requires.1 c.requires.3 (λ e. c.if-read-eq2.false (c.read.ensures ∙ e)));
-      kept = refl;
-    }
+  ls_after = λ G ta fl ls a. rw c.enter.ensures
+      (follow_enter a _ _ ls c.requires.1 c.requires.3 (λ e. c.if-read-eq2.false (c.read.ensures ∙ e)));
+  kept = refl;
+}

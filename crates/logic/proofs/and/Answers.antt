@@ -5,25 +5,25 @@ use borrow.Author.Rules.{rules}
 use Rattle.logic.proofs.and.Goals as goal
 
 pub returns-in-F : goal.returns-in-F
-returns-in-F c =    c.in_row.ensures
+returns-in-F c = c.in_row.ensures
     ∙ ap₂ and_table (sym c.in-F.is
     ∙ c.truth_of-p.ensures)
     c.truth_of-q.ensures
 
 pub returns-in-U : goal.returns-in-U
-returns-in-U c =    c.in_row-in-U.ensures
+returns-in-U c = c.in_row-in-U.ensures
     ∙ ap₂ and_table (sym c.in-U.is
     ∙ c.truth_of-p.ensures)
     c.truth_of-q.ensures
 
 pub returns-in-T : goal.returns-in-T
-returns-in-T c =    c.in_row-in-T.ensures
+returns-in-T c = c.in_row-in-T.ensures
     ∙ ap₂ and_table (sym c.in-T.is
     ∙ c.truth_of-p.ensures)
     c.truth_of-q.ensures
 
 pub returns-in-O : goal.returns-in-O
-returns-in-O c =    c.in_row-in-O.ensures
+returns-in-O c = c.in_row-in-O.ensures
     ∙ ap₂ and_table (sym c.in-O.is
     ∙ c.truth_of-p.ensures)
     c.truth_of-q.ensures

@@ -6,5 +6,5 @@ use borrow.Author.Rules.{rules}
 use Rattle.logic.proofs.conditional.Goals as goal
 
 pub returns : goal.returns
-returns c =    c.in_row.ensures
+returns c = c.in_row.ensures
     ∙ ap (row c.args.b Undefined c.args.a Error) c.truth_of-t.ensures

@@ -5,5 +5,5 @@ use Rattle.marks.proofs.enter.Goals as goal
 
 pub returns : goal.returns
 unfolding fill
-returns c =    rw (c.write-3.ensures, c.write-2.ensures, c.write.ensures)
+returns c = rw (c.write-3.ensures, c.write-2.ensures, c.write.ensures)
     refl

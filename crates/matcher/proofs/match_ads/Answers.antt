@@ -6,18 +6,18 @@ use borrow.Author.Rules.{rules}
 use Rattle.matcher.proofs.match_ads.Goals as goal
 
 pub match_formed-requires : goal.match_formed-requires
-match_formed-requires c =    let a = admission_told c.admit-admitted.ensures c.in-Admitted.is in (
-      a.first_measured,
-      a.second_measured,
-      sym (values_front a c.args.table.now refl),
-      sym (list_front a c.args.list.now refl),
-    )
+match_formed-requires c = let a = admission_told c.admit-admitted.ensures c.in-Admitted.is in (
+  a.first_measured,
+  a.second_measured,
+  sym (values_front a c.args.table.now refl),
+  sym (list_front a c.args.list.now refl),
+)
 
 pub returns-in-Refused : goal.returns-in-Refused
-returns-in-Refused c =    refused (refusal_told c.admit-admitted.ensures c.in-Refused.is) refl refl refl
+returns-in-Refused c = refused (refusal_told c.admit-admitted.ensures c.in-Refused.is) refl refl refl
 
 pub returns-in-Admitted : goal.returns-in-Admitted
-returns-in-Admitted c =    matches (admission_told c.admit-admitted.ensures c.in-Admitted.is).admits _
+returns-in-Admitted c = matches (admission_told c.admit-admitted.ensures c.in-Admitted.is).admits _
     _ c.match_formed.ensures refl refl
 
 pub slice_bounds-match_formed-end : goal.slice_bounds-match_formed-end

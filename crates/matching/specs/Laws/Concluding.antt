@@ -4,7 +4,7 @@ use Rattle.std.proofs.Common.{sym, ap, ◌∙◌, subst, inl, inr}
 use Rattle.std.proofs.Math.Path.{fun_ext}
 use Rattle.std.proofs.Math.Bool.{false, true}
 use Rattle.graph.specs.Members.{◌∈◌, here, Each}
-use Rattle.graph.specs.Laws.Members.{mem_left, mem_right, mem_append}
+use Rattle.graph.proofs.Laws.Members.{mem_left, mem_right, mem_append}
 use Rattle.links.specs.Pair.{roots_of, requirements, rank, pair_graph}
 use Rattle.values.specs.declared.Value.{Value}
 use Rattle.slots.specs.declared.Slot.{Slot}
@@ -12,7 +12,7 @@ use Rattle.slots.specs.declared.Slot.TheVariants.{Held}
 use Rattle.nodes.specs.Nodes.{value_in}
 use Rattle.graph.specs.Graph.{Graph, Flags}
 use Rattle.valuation.specs.Gives.{Gives}
-use Rattle.valuation.specs.Laws.Values.{gives_unique}
+use Rattle.valuation.proofs.Laws.Values.{gives_unique}
 use Rattle.evaluation.specs.Evaluation.{seen}
 use Rattle.matching.specs.Matching.{Worth, absent, present}
 

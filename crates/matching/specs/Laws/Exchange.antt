@@ -24,9 +24,9 @@ use Rattle.nodes.specs.declared.Node as kind
 use Rattle.nodes.specs.declared.Node.TheVariants.{Constant, Reference, OfOne, OfTwo, Conditional}
 use Rattle.nodes.specs.Nodes.{constant_of, node_of, applied, value_in}
 use Rattle.valuation.specs.Gives.{Gives}
-use Rattle.valuation.specs.Laws.Values.{gives_unique}
-use Rattle.valuation.specs.Laws.Transfer.{Alike, anil, acons, Embeds, carries, gives_goes, mem_map, map_mem}
-use Rattle.valuation.specs.Laws.Exchange.{list_exchanged}
+use Rattle.valuation.proofs.Laws.Values.{gives_unique}
+use Rattle.valuation.proofs.Laws.Transfer.{Alike, anil, acons, Embeds, carries, gives_goes, mem_map, map_mem}
+use Rattle.valuation.proofs.Laws.Exchange.{list_exchanged}
 use Rattle.evaluation.specs.Evaluation.{node_from, node_at, rule_at}
 use Rattle.verdict.specs.Verdict.{is_true, rank_of}
 use Rattle.matching.specs.Matching.{Worth, absent, present, Concluded, Match}

@@ -4,7 +4,7 @@ use Rattle.std.specs.Prelude.{ℕ, suc, ◌-◌, ◌≤◌, ◌<◌, ◌≡◌, 
 use Rattle.std.proofs.Math.Decide.{dec_lt}
 use Rattle.std.proofs.Common.{arith, sym, ap, ◌∙◌, subst}
 use Rattle.graph.specs.Graph.{Graph, needs, Entered}
-use Rattle.graph.specs.Laws.Order.{entered_unique}
+use Rattle.graph.proofs.Laws.Order.{entered_unique}
 use Rattle.links.specs.Pair.{pair_graph, pair_slots}
 use Rattle.evaluation.specs.Evaluation.{rule_at, steps_words}
 use Rattle.matching.specs.Matching.{Concluded, Counted, Match, table_words, Matched, refused, matches}

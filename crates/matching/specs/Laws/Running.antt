@@ -8,9 +8,9 @@ use Rattle.std.proofs.Math.ListN.{length, take, replicate}
 use Rattle.std.proofs.lemmas.List.{length-map}
 use Rattle.std.proofs.Math.Seq.{take-append_seam}
 use Rattle.graph.specs.Members.{◌∈◌, raised}
-use Rattle.graph.specs.Laws.Members.{mem_right}
+use Rattle.graph.proofs.Laws.Members.{mem_right}
 use Rattle.graph.specs.Graph.{Graph, Sound, Path⁺, Flags, needs, Entered}
-use Rattle.graph.specs.Laws.Traversal.{needs_acyclic, list_unique}
+use Rattle.graph.proofs.Laws.Traversal.{needs_acyclic, list_unique}
 use Rattle.links.specs.Pair.{pair_graph}
 use Rattle.links.specs.Inner.Asked.{Formed}
 use Rattle.links.specs.Laws.Soundness.{pair_sound}
@@ -22,8 +22,8 @@ use Rattle.slots.specs.declared.Slot.TheVariants.{Held}
 use Rattle.slots.specs.Packed.{slot_at}
 use Rattle.valuation.specs.Gives.{Gives}
 use Rattle.valuation.specs.Run.{Settled}
-use Rattle.valuation.specs.Laws.Order.{Ordered, onil, ordered_take, ordered_drop, entered_ordered}
-use Rattle.valuation.specs.Laws.Runs.{run_settled, steps_right}
+use Rattle.valuation.proofs.Laws.Order.{Ordered, onil, ordered_take, ordered_drop, entered_ordered}
+use Rattle.valuation.proofs.Laws.Runs.{run_settled, steps_right}
 use Rattle.evaluation.specs.Evaluation.{rule_at, seen, needed, entries, RunTo}
 use Rattle.matching.specs.Laws.Concluding.{flags_same}
 

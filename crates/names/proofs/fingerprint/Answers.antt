@@ -11,7 +11,7 @@ pub mix-h-requires : goal.mix-h-requires
 mix-h-requires c = c.loop-i.invariant.small
 
 pub loop-i-preserved : goal.loop-i-preserved
-loop-i-preserved c =    folding_next c.loop-i.invariant c.loop-i-test.true
+loop-i-preserved c = folding_next c.loop-i.invariant c.loop-i-test.true
     c.mix-h.ensures.value c.mix-h.ensures.small
 
 pub returns : goal.returns

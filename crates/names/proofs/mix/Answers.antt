@@ -8,6 +8,6 @@ use Rattle.names.proofs.mix.Goals as goal
 pub returns : goal.returns
 unfolding mixed
 returns c = record {
-      value = ap (λ (u : ℕ). (c.args.h * 31 + u) % 65536) c.lower.ensures;
-      small = omega arith;
-    }
+  value = ap (λ (u : ℕ). (c.args.h * 31 + u) % 65536) c.lower.ensures;
+  small = omega arith;
+}

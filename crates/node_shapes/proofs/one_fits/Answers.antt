@@ -6,7 +6,7 @@ use borrow.Author.Rules.{rules}
 use Rattle.node_shapes.proofs.one_fits.Goals as goal
 
 pub returns : goal.returns
-returns c =    c.both-3.ensures
+returns c = c.both-3.ensures
     ∙ ands (c.both.ensures
     ∙ ap (◌&&◌ (leb c.args.s c.args.x)) c.follows.ensures)
     c.both-2.ensures

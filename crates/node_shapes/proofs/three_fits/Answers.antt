@@ -6,6 +6,6 @@ use borrow.Author.Rules.{rules}
 use Rattle.node_shapes.proofs.three_fits.Goals as goal
 
 pub returns : goal.returns
-returns c =    c.both-3.ensures
+returns c = c.both-3.ensures
     ∙ ands c.both.ensures (c.both-2.ensures
     ∙ ap (◌&&◌ (ltb c.args.y c.args.z)) c.follows.ensures)

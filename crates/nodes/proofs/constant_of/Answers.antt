@@ -21,10 +21,10 @@ pub returns-in-6 : goal.returns-in-6
 returns-in-6 c = rw c.in-6.is
 
 pub returns-in_default : goal.returns-in_default
-returns-in_default c =    rw (
-      ne_eqb c.args.kind 2 c.in_default.in_default-own.rest.0.0.0.0.1,
-      ne_eqb c.args.kind 3 c.in_default.in_default-own.rest.0.0.0.1,
-      ne_eqb c.args.kind 4 c.in_default.in_default-own.rest.0.0.1,
-      ne_eqb c.args.kind 5 c.in_default.in_default-own.rest.0.1,
-      ne_eqb c.args.kind 6 c.in_default.in_default-own.rest.1,
-    )
+returns-in_default c = rw (
+  ne_eqb c.args.kind 2 c.in_default.in_default-own.rest.0.0.0.0.1,
+  ne_eqb c.args.kind 3 c.in_default.in_default-own.rest.0.0.0.1,
+  ne_eqb c.args.kind 4 c.in_default.in_default-own.rest.0.0.1,
+  ne_eqb c.args.kind 5 c.in_default.in_default-own.rest.0.1,
+  ne_eqb c.args.kind 6 c.in_default.in_default-own.rest.1,
+)

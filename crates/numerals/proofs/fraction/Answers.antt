@@ -3,18 +3,18 @@ use borrow.Author.Rules.{rules}
 use Rattle.numerals.proofs.fraction.Goals as goal
 
 pub returns-then-at-end : goal.returns-then-at-end
-returns-then-at-end c =    fraction_some c.args.text.now c.args.at
+returns-then-at-end c = fraction_some c.args.text.now c.args.at
     c.if-at-text.true c.if-text-at-eq46.true c.run-end.result
     c.run-end.ensures c.if-at-end.true
 
 pub returns-else-at-end : goal.returns-else-at-end
-returns-else-at-end c =    fraction_none c.args.text.now c.args.at
+returns-else-at-end c = fraction_none c.args.text.now c.args.at
     c.if-at-text.true c.if-text-at-eq46.true c.run-end.result
     c.run-end.ensures c.if-at-end.false
 
 pub returns-else-text-at-eq46 : goal.returns-else-text-at-eq46
-returns-else-text-at-eq46 c =    fraction_other c.args.text.now c.args.at c.if-at-text.true c.if-text-at-eq46.false
+returns-else-text-at-eq46 c = fraction_other c.args.text.now c.args.at c.if-at-text.true c.if-text-at-eq46.false
 
 pub returns-else-at-text : goal.returns-else-at-text
-returns-else-at-text c =    fraction_end c.args.text.now c.args.at c.if-at-text.false
+returns-else-at-text c = fraction_end c.args.text.now c.args.at c.if-at-text.false
     c.requires

@@ -5,15 +5,15 @@ use borrow.Author.Rules.{rules}
 use Rattle.numerals.proofs.number.Goals as goal
 
 pub returns-then-v-gt2147483647 : goal.returns-then-v-gt2147483647
-returns-then-v-gt2147483647 c =    record {
-      means_it = number_large c.args.text.now c.args.p c.run-q.result
-          c.fraction-end.result c.requires c.run-q.ensures c.fraction-end.ensures
-          c.if-end-q.true (omega (arith, c.value-v.ensures));
-      span = tt;
-    }
+returns-then-v-gt2147483647 c = record {
+  means_it = number_large c.args.text.now c.args.p c.run-q.result
+      c.fraction-end.result c.requires c.run-q.ensures c.fraction-end.ensures
+      c.if-end-q.true (omega (arith, c.value-v.ensures));
+  span = tt;
+}
 
 pub returns-then-end-q : goal.returns-then-end-q
-returns-then-end-q c =    let lt = run_some _ c.args.text.now c.args.p c.run-q.result c.requires
+returns-then-end-q c = let lt = run_some _ c.args.text.now c.args.p c.run-q.result c.requires
     c.run-q.ensures in
     record {
       means_it = number_integer c.args.text.now c.args.p c.run-q.result
@@ -24,16 +24,16 @@ returns-then-end-q c =    let lt = run_some _ c.args.text.now c.args.p c.run-q.r
     }
 
 pub returns-then-q-p-gt15 : goal.returns-then-q-p-gt15
-returns-then-q-p-gt15 c =    record {
-      means_it = number_long c.args.text.now c.args.p
-          c.run-q.result c.fraction-end.result c.requires c.run-q.ensures
-          c.fraction-end.ensures (c.fraction-end.ensures.some c.if-end-q.false)
-          c.if-q-p-gt15.true;
-      span = tt;
-    }
+returns-then-q-p-gt15 c = record {
+  means_it = number_long c.args.text.now c.args.p
+      c.run-q.result c.fraction-end.result c.requires c.run-q.ensures
+      c.fraction-end.ensures (c.fraction-end.ensures.some c.if-end-q.false)
+      c.if-q-p-gt15.true;
+  span = tt;
+}
 
 pub returns : goal.returns
-returns c =    let lt = run_some _ c.args.text.now c.args.p c.run-q.result c.requires
+returns c = let lt = run_some _ c.args.text.now c.args.p c.run-q.result c.requires
     c.run-q.ensures in
     record {
       means_it = number_real c.args.text.now c.args.p c.run-q.result

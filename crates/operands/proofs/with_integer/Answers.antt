@@ -9,5 +9,5 @@ pub returns-in-Integer : goal.returns-in-Integer
 returns-in-Integer c = rw c.in-Integer.is
 
 pub returns-in-Real : goal.returns-in-Real
-returns-in-Real c =    rw c.in-Real.is
+returns-in-Real c = rw c.in-Real.is
     (ap (λ (x : Float). Reals x c.in-Real.y) c.of_integer.ensures)

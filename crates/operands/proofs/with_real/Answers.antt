@@ -5,7 +5,7 @@ use borrow.Author.Rules.{rules}
 use Rattle.operands.proofs.with_real.Goals as goal
 
 pub returns-in-Integer : goal.returns-in-Integer
-returns-in-Integer c =    rw c.in-Integer.is
+returns-in-Integer c = rw c.in-Integer.is
     (ap (Reals c.args.x) c.of_integer.ensures)
 
 pub returns-in-Real : goal.returns-in-Real

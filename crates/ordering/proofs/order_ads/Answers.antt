@@ -6,18 +6,18 @@ use borrow.Author.Rules.{rules}
 use Rattle.ordering.proofs.order_ads.Goals as goal
 
 pub order_formed-requires : goal.order_formed-requires
-order_formed-requires c =    let a = admission_told c.admit-admitted.ensures c.in-Admitted.is in (
-      a.first_measured,
-      a.second_measured,
-      sym (values_front a c.args.flags.now refl),
-      sym (list_front a c.args.list.now refl),
-    )
+order_formed-requires c = let a = admission_told c.admit-admitted.ensures c.in-Admitted.is in (
+  a.first_measured,
+  a.second_measured,
+  sym (values_front a c.args.flags.now refl),
+  sym (list_front a c.args.list.now refl),
+)
 
 pub returns-in-Refused : goal.returns-in-Refused
-returns-in-Refused c =    refused (refusal_told c.admit-admitted.ensures c.in-Refused.is) refl refl refl
+returns-in-Refused c = refused (refusal_told c.admit-admitted.ensures c.in-Refused.is) refl refl refl
 
 pub returns-in-Admitted : goal.returns-in-Admitted
-returns-in-Admitted c =    orders (admission_told c.admit-admitted.ensures c.in-Admitted.is).admits _ _
+returns-in-Admitted c = orders (admission_told c.admit-admitted.ensures c.in-Admitted.is).admits _ _
     c.order_formed.ensures refl refl
 
 pub slice_bounds-order_formed-end : goal.slice_bounds-order_formed-end

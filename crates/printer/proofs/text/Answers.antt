@@ -5,19 +5,19 @@ use borrow.Author.Rules.{rules}
 use Rattle.printer.proofs.text.Goals as goal
 
 pub slice_bounds-result-end : goal.slice_bounds-result-end
-slice_bounds-result-end c =    sym (length-take-le _ _ (text_back c.args.words.now c.args.bytes.now c.args.out.now
+slice_bounds-result-end c = sym (length-take-le _ _ (text_back c.args.words.now c.args.bytes.now c.args.out.now
     c.print.new.out _ (rw c.in-Text.is at c.print.ensures)).0)
 
 pub returns-in-Text : goal.returns-in-Text
 returns-in-Text c = record {
-      hands_back = (text_back c.args.words.now c.args.bytes.now c.args.out.now c.print.new.out _
-          (rw c.in-Text.is at c.print.ensures)).1;
-      front = refl;
-    }
+  hands_back = (text_back c.args.words.now c.args.bytes.now c.args.out.now c.print.new.out _
+      (rw c.in-Text.is at c.print.ensures)).1;
+  front = refl;
+}
 
 pub returns-in-Refused : goal.returns-in-Refused
 returns-in-Refused c = record {
-      hands_back = none_back c.args.words.now c.args.bytes.now c.args.out.now c.print.new.out _
-          _ (rw c.in-Refused.is at c.print.ensures);
-      front = refl;
-    }
+  hands_back = none_back c.args.words.now c.args.bytes.now c.args.out.now c.print.new.out _
+      _ (rw c.in-Refused.is at c.print.ensures);
+  front = refl;
+}

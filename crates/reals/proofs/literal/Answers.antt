@@ -16,15 +16,15 @@ returns-then-places-lt1 c = rw (lt-ltb _ (10 ^ 15) c.if-digits-ge100000000000000
 
 pub returns-then-places-ge15 : goal.returns-then-places-ge15
 unfolding Ieee.of_int Ieee.of_bits
-returns-then-places-ge15 c =    rw (
-      lt-ltb _ (10 ^ 15) c.if-digits-ge1000000000000000.false,
-      le-leb 1 _ c.if-places-lt1.false,
-      le-ltb _ 15 c.if-places-ge15.true,
-    ) refl
+returns-then-places-ge15 c = rw (
+  lt-ltb _ (10 ^ 15) c.if-digits-ge1000000000000000.false,
+  le-leb 1 _ c.if-places-lt1.false,
+  le-ltb _ 15 c.if-places-ge15.true,
+) refl
 
 pub returns : goal.returns
-returns c =    rw (
-      lt-ltb _ (10 ^ 15) c.if-digits-ge1000000000000000.false,
-      le-leb 1 _ c.if-places-lt1.false,
-      lt-ltb _ 15 c.if-places-ge15.false,
-    ) c.quotient.ensures
+returns c = rw (
+  lt-ltb _ (10 ^ 15) c.if-digits-ge1000000000000000.false,
+  le-leb 1 _ c.if-places-lt1.false,
+  lt-ltb _ 15 c.if-places-ge15.false,
+) c.quotient.ensures

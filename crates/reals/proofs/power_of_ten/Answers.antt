@@ -18,5 +18,5 @@ right k x = eqb x (10 ^ k)
 
 pub returns : goal.returns
 unfolding powers right
-returns c =    eqb→eq (get_or powers c.args.places 0) (10 ^ c.args.places)
+returns c = eqb→eq (get_or powers c.args.places 0) (10 ^ c.args.places)
     (at right powers tt c.args.places (search rules))

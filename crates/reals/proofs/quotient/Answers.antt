@@ -19,11 +19,11 @@ int_to_float-result c = le→leb c.args.digits (2 ^ 53) (omega arith)
 
 pub int_to_float-result-2 : goal.int_to_float-result-2
 unfolding in_float
-int_to_float-result-2 c =    le→leb c.power_of_ten.result (2 ^ 53)
+int_to_float-result-2 c = le→leb c.power_of_ten.result (2 ^ 53)
     (rw c.power_of_ten.ensures (exact c.args.places c.requires.1))
 
 pub returns : goal.returns
-returns c =    ap (λ (p : ℕ). div binary64 (of_int binary64 (pos c.args.digits)) (of_int binary64 (pos p)))
+returns c = ap (λ (p : ℕ). div binary64 (of_int binary64 (pos c.args.digits)) (of_int binary64 (pos p)))
     c.power_of_ten.ensures
     ∙ whole_quotient binary64 c.args.digits (10 ^ c.args.places) (omega arith) (exact c.args.places c.requires.1)
     (one-le-pow c.args.places 10 (zero-lt-suc 9))

@@ -5,7 +5,7 @@ use Rattle.std.specs.Float.{binary64}
 use Rattle.integers.specs.Integers.{signed}
 use Rattle.rounding.specs.Nearest.{Nearest}
 use Rattle.rounding.specs.Exact.{negative}
-use Rattle.rounding.specs.Laws.Operations.{decimal_nearest, whole_nearest}
+use Rattle.rounding.proofs.Laws.Operations.{decimal_nearest, whole_nearest}
 use Rattle.reals.specs.Reals.{literal_real, stored_real, integer_real}
 
 -- 'A real literal is the whole number of its digits divided by the power of ten of its places, one rounding.'

@@ -6,5 +6,5 @@ use borrow.Author.Rules.{rules}
 use Rattle.signs.proofs.ahead.Goals as goal
 
 pub returns-else-k-text : goal.returns-else-k-text
-returns-else-k-text c =    let h : length c.args.text.now ≤ c.args.p + c.args.k = omega arith in
+returns-else-k-text c = let h : length c.args.text.now ≤ c.args.p + c.args.k = omega arith in
     sym (get_or-eq_default c.args.text.now 0 h)

@@ -73,7 +73,7 @@ unfolding symbol_in spellings begins bytes
 returns-in-46 c = short_at _ 46 _ c.in-46.is refl
 
 pub returns-in_default : goal.returns-in_default
-returns-in_default c =    short_none _ c.in_default.in_default-own.rest.0.0.0.0.0.0.0.0.0.0.0.0.0.0.0.0.1
+returns-in_default c = short_none _ c.in_default.in_default-own.rest.0.0.0.0.0.0.0.0.0.0.0.0.0.0.0.0.1
     c.in_default.in_default-own.rest.0.0.0.0.0.0.0.0.0.0.0.0.0.0.0.1
     c.in_default.in_default-own.rest.0.0.0.0.0.0.0.0.0.0.0.0.0.0.1
     c.in_default.in_default-own.rest.0.0.0.0.0.0.0.0.0.0.0.0.0.1

@@ -6,7 +6,7 @@ use borrow.Author.Rules.{rules}
 use Rattle.stepping.proofs.node_from.Goals as goal
 
 pub returns : goal.returns
-returns c =    c.node_of.ensures
+returns c = c.node_of.ensures
     ∙ ap (λ (k : ℕ). node_of c.args.second k c.operand-a.result c.operand-b.result)
     c.kind-kind.ensures
     ∙ ap (λ (k : ℕ). node_of c.args.second (kind_at c.args.words.now c.args.i) k

@@ -8,15 +8,15 @@ use borrow.Author.Rules.{rules}
 use Rattle.stepping.proofs.step.Goals as goal
 
 pub node_at-node-requires : goal.node_at-node-requires
-node_at-node-requires c =    (
-      stands_small c.args.first_words.now c.args.second_words.now
-          c.args.x c.requires.node,
-      c.requires.first_formed.words_room,
-      c.requires.second_formed.words_room,
-    )
+node_at-node-requires c = (
+  stands_small c.args.first_words.now c.args.second_words.now
+      c.args.x c.requires.node,
+  c.requires.first_formed.words_room,
+  c.requires.second_formed.words_room,
+)
 
 pub returns : goal.returns
-returns c =    step_stored (needed (pair_graph c.args.first_words.now c.args.first_bytes.now c.args.second_words.now
+returns c = step_stored (needed (pair_graph c.args.first_words.now c.args.first_bytes.now c.args.second_words.now
     c.args.second_bytes.now) c.args.target.now c.args.flag.now)
     (rule_at c.args.first_words.now c.args.first_bytes.now c.args.second_words.now c.args.second_bytes.now) (rule_of_lem
     c.args.first_words.now c.args.first_bytes.now c.args.second_words.now c.args.second_bytes.now c.args.x (map

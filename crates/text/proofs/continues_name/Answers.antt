@@ -9,5 +9,5 @@ unfolding continues_name
 returns-then-starts_name c = simp (sym c.starts_name.ensures ∙ c.if-starts_name.true)
 
 pub returns : goal.returns
-returns c =    name_digit _ c.is_digit.result
+returns c = name_digit _ c.is_digit.result
     (sym c.starts_name.ensures ∙ c.if-starts_name.false) c.is_digit.ensures

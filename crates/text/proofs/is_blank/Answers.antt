@@ -13,11 +13,11 @@ returns-then-b-eq9 c = simp (ne_eqb _ _ c.if-b-eq32.false, eq-eqb _ _ c.if-b-eq9
 
 pub returns-then-b-eq13 : goal.returns-then-b-eq13
 unfolding is_blank
-returns-then-b-eq13 c =    simp (
-      ne_eqb _ _ c.if-b-eq32.false,
-      ne_eqb _ _ c.if-b-eq9.false,
-      eq-eqb _ _ c.if-b-eq13.true,
-    )
+returns-then-b-eq13 c = simp (
+  ne_eqb _ _ c.if-b-eq32.false,
+  ne_eqb _ _ c.if-b-eq9.false,
+  eq-eqb _ _ c.if-b-eq13.true,
+)
 
 pub returns : goal.returns
 returns c = last_blank _ c.if-b-eq32.false c.if-b-eq9.false c.if-b-eq13.false

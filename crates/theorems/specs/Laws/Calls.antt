@@ -11,11 +11,11 @@ use Rattle.syntax.specs.Token.{Token, pick, tokens}
 use Rattle.syntax.specs.Grammar.{IsAd, Within, Whole}
 use Rattle.syntax.specs.Reader as R
 use Rattle.syntax.specs.Print.{printed_ad}
-use Rattle.syntax.specs.Laws.Accepts.{accepts}
+use Rattle.syntax.proofs.Laws.Accepts.{accepts}
 use Rattle.ad.specs.Layout.{small_ad, ad_words, ad_bytes_room, stored_words, stored_bytes}
 use Rattle.ad.specs.Stored.{node_count}
 use Rattle.grammar.specs.Refusal as refusal
-use Rattle.grammar.specs.Laws.Refusals.{read_refusal}
+use Rattle.grammar.proofs.Laws.Refusals.{read_refusal}
 use Rattle.well_formed.specs.WellFormed.{Holds, Answers}
 use Rattle.well_formed.specs.declared.Checked.TheVariants.{WellFormed}
 use Rattle.printer.specs.Prints.{Roomy}
@@ -24,7 +24,7 @@ use Rattle.ad_reader.specs.declared.Answer.TheVariants.{Accepted, Refused}
 use Rattle.reader.specs.Content.{answer_of, answer, words_after, bytes_after, Answered}
 use Rattle.graph.specs.Members.{◌∈◌, Distinct}
 use Rattle.graph.specs.Graph.{Graph, IsList}
-use Rattle.graph.specs.Laws.Members.{put_same, put_other}
+use Rattle.graph.proofs.Laws.Members.{put_same, put_other}
 use Rattle.links.specs.Pair.{numbered, requirements, rank, pair_graph, pair_slots}
 use Rattle.values.specs.declared.Value.{Value}
 use Rattle.slots.specs.declared.Slot.{Slot}

@@ -6,11 +6,11 @@ use Rattle.std.proofs.Math.ListN.{length-replicate}
 use Rattle.matching.proofs.Assembling.{blank_zeros}
 use Rattle.syntax.specs.Bounds.{max_nodes}
 use Rattle.graph.specs.Members.{◌∈◌, here, there, Each}
-use Rattle.graph.specs.Laws.Members.{mem_nil, mem_cons}
+use Rattle.graph.proofs.Laws.Members.{mem_nil, mem_cons}
 use Rattle.graph.specs.Graph.{Sound, Node, Flags, needs, Entered}
 use Rattle.graph.specs.Transition.{transitions, first}
-use Rattle.graph.specs.Laws.Traversal.{needs_links, needs_acyclic, within_square}
-use Rattle.graph.specs.Laws.Progress.{Exactly, traverse_exactly}
+use Rattle.graph.proofs.Laws.Traversal.{needs_links, needs_acyclic, within_square}
+use Rattle.graph.proofs.Laws.Progress.{Exactly, traverse_exactly}
 use Rattle.links.specs.Pair.{roots_of, requirements, rank, pair_graph}
 use Rattle.links.specs.Inner.Asked.{Formed}
 use Rattle.links.specs.Laws.Soundness.{pair_sound}
@@ -20,9 +20,9 @@ use Rattle.slots.specs.declared.Slot.TheVariants.{Blank, Held}
 use Rattle.slots.specs.Packed.{slot_at}
 use Rattle.nodes.specs.Nodes.{value_in}
 use Rattle.valuation.specs.Run.{Ran}
-use Rattle.valuation.specs.Laws.Values.{entered_in}
-use Rattle.valuation.specs.Laws.Transfer.{entered_part}
-use Rattle.valuation.specs.Laws.Runs.{run_ran}
+use Rattle.valuation.proofs.Laws.Values.{entered_in}
+use Rattle.valuation.proofs.Laws.Transfer.{entered_part}
+use Rattle.valuation.proofs.Laws.Runs.{run_ran}
 use Rattle.evaluation.specs.Evaluation.{rule_at, seen, steps_words}
 use Rattle.verdict.specs.Verdict.{is_true, rank_of}
 use Rattle.matching.specs.Matching.{Worth, Counted, Match}

@@ -13,14 +13,14 @@ returns-then-q-p-gt-NAME_BYTES c = record {
 }
 
 pub word-requires : goal.word-requires
-word-requires c =    (
-      run_some _ c.args.text.now c.args.p c.run-q.result c.requires
-          c.run-q.ensures,
-      omega arith,
-    )
+word-requires c = (
+  run_some _ c.args.text.now c.args.p c.run-q.result c.requires
+      c.run-q.ensures,
+  omega arith,
+)
 
 pub returns : goal.returns
-returns c =    let lt = run_some _ c.args.text.now c.args.p c.run-q.result c.requires
+returns c = let lt = run_some _ c.args.text.now c.args.p c.run-q.result c.requires
     c.run-q.ensures in
     record {
       means_it = name_token c.args.text.now c.args.p c.run-q.result c.run-q.ensures lt

@@ -18,28 +18,28 @@ loop-i-init c = (
 )
 
 pub loop-i-preserved : goal.loop-i-preserved
-loop-i-preserved c =    (
-      omega arith,
-      omega arith,
-      c.loop-i.invariant.2
-          ∙ run_step (class_of c.args.digits) c.args.text.now c.args.at c.loop-i.i
-          (omega arith) (omega arith) (sym c.in_class.ensures ∙ c.if-in_class.true),
-    )
+loop-i-preserved c = (
+  omega arith,
+  omega arith,
+  c.loop-i.invariant.2
+      ∙ run_step (class_of c.args.digits) c.args.text.now c.args.at c.loop-i.i
+      (omega arith) (omega arith) (sym c.in_class.ensures ∙ c.if-in_class.true),
+)
 
 pub returns-else-in_class : goal.returns-else-in_class
-returns-else-in_class c =    record {
-      low = omega arith;
-      high = omega arith;
-      run = c.loop-i.invariant.2
-          ∙ run_stop (class_of c.args.digits) c.args.text.now c.args.at c.loop-i.i
-          (omega arith) (sym c.in_class.ensures ∙ c.if-in_class.false);
-    }
+returns-else-in_class c = record {
+  low = omega arith;
+  high = omega arith;
+  run = c.loop-i.invariant.2
+      ∙ run_stop (class_of c.args.digits) c.args.text.now c.args.at c.loop-i.i
+      (omega arith) (sym c.in_class.ensures ∙ c.if-in_class.false);
+}
 
 pub returns : goal.returns
-returns c =    record {
-      low = omega arith;
-      high = omega arith;
-      run = c.loop-i.invariant.2
-          ∙ run_end (class_of c.args.digits) c.args.text.now c.args.at c.loop-i.i
-          (omega arith);
-    }
+returns c = record {
+  low = omega arith;
+  high = omega arith;
+  run = c.loop-i.invariant.2
+      ∙ run_end (class_of c.args.digits) c.args.text.now c.args.at c.loop-i.i
+      (omega arith);
+}

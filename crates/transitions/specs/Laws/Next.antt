@@ -5,8 +5,8 @@ use Rattle.std.proofs.Math.Logic.{inl, inr}
 use Rattle.std.proofs.Math.Decide.{ℕ_discrete}
 use native.Mathlib.Omega.{arith}
 use Rattle.graph.specs.Transition.{State, searches, transition}
-use Rattle.graph.specs.Laws.Range.{InRange, slotted, range_kept}
-use Rattle.graph.specs.Laws.Numbers.{PlaceSmall, Small, small_kept}
+use Rattle.graph.proofs.Laws.Range.{InRange, slotted, range_kept}
+use Rattle.graph.proofs.Laws.Numbers.{PlaceSmall, Small, small_kept}
 use Rattle.graph.specs.declared.Place.{Place}
 use Rattle.graph.specs.declared.Place.TheVariants.{Resolving, Starting, Searching, Closing, Between, Inside}
 use Rattle.links.specs.Pair.{pair_graph}

@@ -3,7 +3,7 @@ use Prim.Native.Nat.{◌+◌, max}
 use Rattle.syntax.specs.Print.{wrap_level}
 use Rattle.tree_check.specs.Inner.Decode.{wrap_length}
 use Rattle.tree_check.specs.declared.Walk.TheVariants.{Tree}
-use Rattle.syntax.specs.Laws.Codes.{binds_low}
+use Rattle.syntax.proofs.Laws.Codes.{binds_low}
 use native.Mathlib.Omega.{arith}
 use borrow.Author.Rules.{rules}
 use Rattle.tree_check.proofs.binary_walk.Goals as goal
@@ -15,7 +15,7 @@ pub overflow_add-k-2 : goal.overflow_add-k-2
 overflow_add-k-2 c = let h = binds_low c.args.j in omega arith
 
 pub returns : goal.returns
-returns c =    let first = c.around.ensures.0
+returns c = let first = c.around.ensures.0
     ∙ (λ m. wrap_level (c.binds-k.ensures m) c.args.b c.args.d) in
     let second = c.around-2.ensures.0
     ∙ (λ m. wrap_level (c.binds-k.ensures m + 1) c.args.b2 c.args.d2) in

@@ -5,10 +5,10 @@ use borrow.Author.Rules.{rules}
 use Rattle.tree_check.proofs.integer_walk.Goals as goal
 
 pub returns-then-both : goal.returns-then-both
-returns-then-both c =    ap (plain_walk c.args.o) c.decimal_length.ensures.0
+returns-then-both c = ap (plain_walk c.args.o) c.decimal_length.ensures.0
     ∙ walk_if_lem (integer_fits c.args.x c.args.y) _
     (sym c.both.ensures ∙ c.if-both.true)
 
 pub returns : goal.returns
-returns c =    walk_bad (integer_fits c.args.x c.args.y) _
+returns c = walk_bad (integer_fits c.args.x c.args.y) _
     (sym c.both.ensures ∙ c.if-both.false)

@@ -5,9 +5,9 @@ use borrow.Author.Rules.{rules}
 use Rattle.tree_check.proofs.keyword_walk.Goals as goal
 
 pub returns-then-both : goal.returns-then-both
-returns-then-both c =    walk_if_lem (keyword_fits c.args.x c.args.y) _
+returns-then-both c = walk_if_lem (keyword_fits c.args.x c.args.y) _
     (sym c.both.ensures ∙ c.if-both.true)
 
 pub returns : goal.returns
-returns c =    walk_bad (keyword_fits c.args.x c.args.y) _
+returns c = walk_bad (keyword_fits c.args.x c.args.y) _
     (sym c.both.ensures ∙ c.if-both.false)

@@ -10,7 +10,7 @@ use borrow.Author.Rules.{rules}
 use Rattle.tree_check.proofs.name_walk.Goals as goal
 
 pub overflow_add-result : goal.overflow_add-result
-overflow_add-result c =    let h = stands_room c.args.bytes.now c.args.o c.args.x c.args.y
+overflow_add-result c = let h = stands_room c.args.bytes.now c.args.o c.args.x c.args.y
     (is_name (bytes_at c.args.bytes.now c.args.o c.args.y)) (sym (c.both.ensures
     ∙ ands c.stands.ensures (c.is_name.ensures
     ∙ ap is_name c.part-part.ensures))
@@ -18,7 +18,7 @@ overflow_add-result c =    let h = stands_room c.args.bytes.now c.args.o c.args.
     omega arith
 
 pub overflow_add-result-then-both : goal.overflow_add-result-then-both
-overflow_add-result-then-both c =    let h = stands_room c.args.bytes.now c.args.o c.args.x c.args.y
+overflow_add-result-then-both c = let h = stands_room c.args.bytes.now c.args.o c.args.x c.args.y
     (is_name (bytes_at c.args.bytes.now c.args.o c.args.y)) (sym (c.both.ensures
     ∙ ands c.stands.ensures (c.is_name.ensures
     ∙ ap is_name c.part-part.ensures))
@@ -26,14 +26,14 @@ overflow_add-result-then-both c =    let h = stands_room c.args.bytes.now c.args
     omega arith
 
 pub returns-then-both : goal.returns-then-both
-returns-then-both c =    walk_if_lem (stands_at c.args.bytes.now c.args.o c.args.x c.args.y && is_name
+returns-then-both c = walk_if_lem (stands_at c.args.bytes.now c.args.o c.args.x c.args.y && is_name
     (bytes_at c.args.bytes.now c.args.o c.args.y)) _ (sym (c.both.ensures
     ∙ ands c.stands.ensures (c.is_name.ensures
     ∙ ap is_name c.part-part.ensures))
     ∙ c.if-both.true)
 
 pub returns : goal.returns
-returns c =    walk_bad (stands_at c.args.bytes.now c.args.o c.args.x c.args.y && is_name
+returns c = walk_bad (stands_at c.args.bytes.now c.args.o c.args.x c.args.y && is_name
     (bytes_at c.args.bytes.now c.args.o c.args.y)) _ (sym (c.both.ensures
     ∙ ands c.stands.ensures (c.is_name.ensures
     ∙ ap is_name c.part-part.ensures))

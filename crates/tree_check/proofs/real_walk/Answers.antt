@@ -6,14 +6,14 @@ use borrow.Author.Rules.{rules}
 use Rattle.tree_check.proofs.real_walk.Goals as goal
 
 pub real_length-requires : goal.real_length-requires
-real_length-requires c =    places_few c.args.x c.args.y
+real_length-requires c = places_few c.args.x c.args.y
     (sym c.is_real.ensures ∙ c.if-is_real.true)
 
 pub returns-then-is_real : goal.returns-then-is_real
-returns-then-is_real c =    ap (plain_walk c.args.o) c.real_length.ensures.0
+returns-then-is_real c = ap (plain_walk c.args.o) c.real_length.ensures.0
     ∙ walk_if_lem (is_real c.args.x c.args.y) _
     (sym c.is_real.ensures ∙ c.if-is_real.true)
 
 pub returns : goal.returns
-returns c =    walk_bad (is_real c.args.x c.args.y) _
+returns c = walk_bad (is_real c.args.x c.args.y) _
     (sym c.is_real.ensures ∙ c.if-is_real.false)

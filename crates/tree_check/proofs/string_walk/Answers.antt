@@ -16,7 +16,7 @@ use borrow.Author.Rules.{rules}
 use Rattle.tree_check.proofs.string_walk.Goals as goal
 
 pub overflow_add-result : goal.overflow_add-result
-overflow_add-result c =    let h = stands_room c.args.bytes.now c.args.o c.args.x c.args.y
+overflow_add-result c = let h = stands_room c.args.bytes.now c.args.o c.args.x c.args.y
     (is_string (bytes_at c.args.bytes.now c.args.o c.args.y)) (sym (c.both.ensures
     ∙ ands c.stands.ensures (c.is_string.ensures
     ∙ ap is_string c.part-part.ensures))
@@ -24,7 +24,7 @@ overflow_add-result c =    let h = stands_room c.args.bytes.now c.args.o c.args.
     omega arith
 
 pub string_length-requires : goal.string_length-requires
-string_length-requires c =    rw c.part-part.ensures (string_room (bytes_at c.args.bytes.now c.args.o c.args.y)
+string_length-requires c = rw c.part-part.ensures (string_room (bytes_at c.args.bytes.now c.args.o c.args.y)
     (stands_test c.args.bytes.now c.args.o c.args.x c.args.y
     (is_string (bytes_at c.args.bytes.now c.args.o c.args.y)) (sym (c.both.ensures
     ∙ ands c.stands.ensures (c.is_string.ensures
@@ -32,7 +32,7 @@ string_length-requires c =    rw c.part-part.ensures (string_room (bytes_at c.ar
     ∙ c.if-both.true)))
 
 pub returns-then-both : goal.returns-then-both
-returns-then-both c =    ap (Tree (c.args.o + c.args.y) 8 0) (c.string_length.ensures.0
+returns-then-both c = ap (Tree (c.args.o + c.args.y) 8 0) (c.string_length.ensures.0
     ∙ ap (λ (x : List ℕ). length (literal_text (string x))) c.part-part.ensures)
     ∙ walk_if_lem (stands_at c.args.bytes.now c.args.o c.args.x c.args.y && is_string
     (bytes_at c.args.bytes.now c.args.o c.args.y)) _ (sym (c.both.ensures
@@ -41,7 +41,7 @@ returns-then-both c =    ap (Tree (c.args.o + c.args.y) 8 0) (c.string_length.en
     ∙ c.if-both.true)
 
 pub returns : goal.returns
-returns c =    walk_bad (stands_at c.args.bytes.now c.args.o c.args.x c.args.y && is_string
+returns c = walk_bad (stands_at c.args.bytes.now c.args.o c.args.x c.args.y && is_string
     (bytes_at c.args.bytes.now c.args.o c.args.y)) _ (sym (c.both.ensures
     ∙ ands c.stands.ensures (c.is_string.ensures
     ∙ ap is_string c.part-part.ensures))

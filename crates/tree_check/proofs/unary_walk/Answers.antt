@@ -4,4 +4,4 @@ use borrow.Author.Rules.{rules}
 use Rattle.tree_check.proofs.unary_walk.Goals as goal
 
 pub returns : goal.returns
-returns c =    λ m. Tree c.args.p 7 (c.around-level.ensures.0 m + 1) (c.around-len.ensures.0 m + 1)
+returns c = λ m. Tree c.args.p 7 (c.around-level.ensures.0 m + 1) (c.around-len.ensures.0 m + 1)

@@ -9,15 +9,15 @@ pub returns-then-k-lt9 : goal.returns-then-k-lt9
 returns-then-k-lt9 c = binds_leaf c.kind-k.result c.if-k-lt9.true ∙ ap binds_kind c.kind-k.ensures
 
 pub returns-then-k-lt12 : goal.returns-then-k-lt12
-returns-then-k-lt12 c =    binds_unary c.kind-k.result c.if-k-lt9.false c.if-k-lt12.true
+returns-then-k-lt12 c = binds_unary c.kind-k.result c.if-k-lt9.false c.if-k-lt12.true
     ∙ ap binds_kind c.kind-k.ensures
 
 pub returns-then-k-eq12 : goal.returns-then-k-eq12
-returns-then-k-eq12 c =    binds_conditional c.kind-k.result c.if-k-eq12.true
+returns-then-k-eq12 c = binds_conditional c.kind-k.result c.if-k-eq12.true
     ∙ ap binds_kind c.kind-k.ensures
 
 pub returns : goal.returns
-returns c =    c.binds.ensures
+returns c = c.binds.ensures
     ∙ ap binds_of c.binary_of.ensures
     ∙ binds_binary c.kind-k.result c.if-k-lt9.false c.if-k-lt12.false
     c.if-k-eq12.false

@@ -26,7 +26,7 @@ use Rattle.nodes.specs.Nodes.{literal_value, node_of, value_in}
 use Rattle.nodes.specs.Laws.Integers.{integer_literal}
 use Rattle.nodes.specs.Laws.Stored.{LiteralFits, literal_value_lem, reference_node, unary_node, conditional_node, binary_node}
 use Rattle.valuation.specs.Gives.{Give, nil, cons, Gives}
-use Rattle.valuation.specs.Laws.Transfer.{Alike, anil, acons}
+use Rattle.valuation.proofs.Laws.Transfer.{Alike, anil, acons}
 use Rattle.evaluation.specs.Evaluation.{node_from}
 use Rattle.trees.specs.Nodes.{Node, leaf, refers, of_one, of_two, of_three, last_of, words_of, bytes_of, Says}
 use Rattle.trees.specs.Links.{leads, is_reference, tree_graph}

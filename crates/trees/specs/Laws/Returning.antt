@@ -7,7 +7,7 @@ use Rattle.syntax.specs.Bounds.{max_nodes}
 use Rattle.syntax.specs.Tree.{Scope, Expr, literal, reference, unary, binary, conditional, Ad, size}
 use Rattle.ad.specs.Layout.{stored_words, stored_bytes}
 use Rattle.graph.specs.Members.{◌∈◌, here, there}
-use Rattle.graph.specs.Laws.Members.{mem_nil, mem_cons}
+use Rattle.graph.proofs.Laws.Members.{mem_nil, mem_cons}
 use Rattle.graph.specs.Graph.{Path⁺, one, more, Circular}
 use Rattle.links.specs.Pair.{numbered, definition_at}
 use Rattle.well_formed.specs.WellFormed.{Holds}

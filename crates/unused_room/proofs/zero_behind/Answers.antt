@@ -8,7 +8,7 @@ use borrow.Author.Rules.{rules}
 use Rattle.unused_room.proofs.zero_behind.Goals as goal
 
 pub returns : goal.returns
-returns c =    c.both-2.ensures
+returns c = c.both-2.ensures
     ∙ ands c.zero_words-nodes.ensures (c.both.ensures
     ∙ ands (c.zero_words-entries.ensures
     ∙ ap (every is_zero) (rest_all c.args.words.now (4096 + 3 * c.args.d)))

@@ -9,7 +9,7 @@ pub loop-i-init : goal.loop-i-init
 loop-i-init c = start _
 
 pub loop-i-preserved : goal.loop-i-preserved
-loop-i-preserved c =    next _ _ _ _ c.loop-i-test.true c.loop-i.invariant
+loop-i-preserved c = next _ _ _ _ c.loop-i-test.true c.loop-i.invariant
     c.still_zero_byte-clear.ensures
 
 pub returns : goal.returns

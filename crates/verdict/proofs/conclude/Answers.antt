@@ -5,7 +5,7 @@ use borrow.Author.Rules.{rules}
 use Rattle.verdict.proofs.conclude.Goals as goal
 
 pub returns : goal.returns
-returns c =     let x = c.is_true-x.ensures ∙ ap is_true c.worth.ensures in
+returns c = let x = c.is_true-x.ensures ∙ ap is_true c.worth.ensures in
     let y = c.is_true-y.ensures ∙ ap is_true c.worth-2.ensures in
     record {
       verdict = c.both.ensures ∙ (λ i. x i && y i);

@@ -13,7 +13,7 @@ pub loop-j-init : goal.loop-j-init
 loop-j-init c = (omega arith, new_all _ _ _)
 
 pub returns-then-defined : goal.returns-then-defined
-returns-then-defined c =    new_stop c.args.words.now c.args.bytes.now c.loop-j.j c.args.d (omega arith) (sym
+returns-then-defined c = new_stop c.args.words.now c.args.bytes.now c.loop-j.j c.args.d (omega arith) (sym
     (c.defined.ensures
     ∙ ap (λ (l : List ℕ). defined_in c.args.words.now c.args.bytes.now l 0 c.loop-j.j)
     (c.part-name.ensures
@@ -23,18 +23,18 @@ returns-then-defined c =    new_stop c.args.words.now c.args.bytes.now c.loop-j.
     ∙ c.loop-j.invariant.1
 
 pub loop-j-preserved : goal.loop-j-preserved
-loop-j-preserved c =    (
-      omega arith,
-      sym (new_more c.args.words.now c.args.bytes.now c.loop-j.j c.args.d (omega arith) (sym
-          (c.defined.ensures
-          ∙ ap (λ (l : List ℕ). defined_in c.args.words.now c.args.bytes.now l 0 c.loop-j.j)
-          (c.part-name.ensures
-          ∙ (λ m. bytes_at c.args.bytes.now (c.offset.ensures m)
-          (c.name_length.ensures m))))
-          ∙ c.if-defined.false))
-          ∙ c.loop-j.invariant.1,
-    )
+loop-j-preserved c = (
+  omega arith,
+  sym (new_more c.args.words.now c.args.bytes.now c.loop-j.j c.args.d (omega arith) (sym
+      (c.defined.ensures
+      ∙ ap (λ (l : List ℕ). defined_in c.args.words.now c.args.bytes.now l 0 c.loop-j.j)
+      (c.part-name.ensures
+      ∙ (λ m. bytes_at c.args.bytes.now (c.offset.ensures m)
+      (c.name_length.ensures m))))
+      ∙ c.if-defined.false))
+      ∙ c.loop-j.invariant.1,
+)
 
 pub returns : goal.returns
-returns c =    new_end c.args.words.now c.args.bytes.now c.loop-j.j c.args.d (omega arith)
+returns c = new_end c.args.words.now c.args.bytes.now c.loop-j.j c.args.d (omega arith)
     ∙ c.loop-j.invariant.1

@@ -10,7 +10,7 @@ use borrow.Author.Rules.{rules}
 use Rattle.well_formed.proofs.entry_fits.Goals as goal
 
 pub returns : goal.returns
-returns c =    c.both-2.ensures
+returns c = c.both-2.ensures
     ∙ ands (c.both-named.ensures
     ∙ ands (c.stands.ensures
     ∙ (λ m. stands_at c.args.bytes.now c.args.o (c.offset.ensures m) (c.name_length-len.ensures m)))

@@ -8,5 +8,5 @@ pub overflow_add-result-in-Ads-2 : goal.overflow_add-result-in-Ads-2
 overflow_add-result-in-Ads-2 c = let h = (rw c.in-Ads.is at c.requires.2) in omega arith
 
 pub returns-in-Ads : goal.returns-in-Ads
-returns-in-Ads c =    sym (ap (row_before c.args.len
+returns-in-Ads c = sym (ap (row_before c.args.len
     c.args.print) c.in-Ads.is)

@@ -5,8 +5,8 @@ use Rattle.syntax.specs.Reader.{accepted, read}
 use Rattle.syntax.specs.Print.{printed_ad}
 use Rattle.ad.specs.Layout.{ad_bytes, ad_bytes_room, stored_words, stored_bytes}
 use Rattle.round_trip.specs.Bounded.{Bounded}
-use Rattle.round_trip.specs.Laws.RoundTrip.{round_trip}
-use Rattle.round_trip.specs.Laws.Readable.{accepted_bounded, read_fits}
+use Rattle.round_trip.proofs.Laws.RoundTrip.{round_trip}
+use Rattle.round_trip.proofs.Laws.Readable.{accepted_bounded, read_fits}
 use Rattle.well_formed.specs.WellFormed.{Holds}
 
 -- A WELL-FORMED AD KEEPS THE BOUNDS, levels of its printed text included

@@ -9,7 +9,7 @@ use Rattle.syntax.specs.Tree.{Expr, Definition, Ad, size, nodes}
 use Rattle.syntax.specs.Token.{pick}
 use Rattle.syntax.specs.Print.{level_of, ad_level}
 use Rattle.syntax.specs.Inner.Lexeme.{is_name}
-use Rattle.syntax.specs.Laws.FrontTokens.{name_some}
+use Rattle.syntax.proofs.Laws.FrontTokens.{name_some}
 use Rattle.ad.specs.Layout.{expr_bytes, expr_nodes, ad_bytes, ad_nodes, ad_definitions}
 use Rattle.ad.specs.Stored.{offset_at, length_at, root_at, bytes_at}
 use Rattle.ad.specs.Laws.Content.{length_nodes, size_some}

@@ -4,12 +4,12 @@ use Rattle.text.specs.Laws.Booleans.{and_left, and_right}
 use Rattle.syntax.specs.Tree.{Ad}
 use Rattle.syntax.specs.Reader.{accepted, parse}
 use Rattle.syntax.specs.Inner.Lexeme.{is_name}
-use Rattle.syntax.specs.Laws.Accepts.{accepts}
-use Rattle.syntax.specs.Laws.FrontTokens.{name_some}
+use Rattle.syntax.proofs.Laws.Accepts.{accepts}
+use Rattle.syntax.proofs.Laws.FrontTokens.{name_some}
 use Rattle.ad.specs.Layout.{Named, stored_words, stored_bytes}
 use Rattle.ad.specs.Laws.Content.{content_tree}
 use Rattle.round_trip.specs.Bounded.{is_writable, are_writable, Bounded}
-use Rattle.round_trip.specs.Laws.Readable.{accepted_bounded}
+use Rattle.round_trip.proofs.Laws.Readable.{accepted_bounded}
 
 pub writable_named : (a : Ad) → are_writable a ≡ true → Named a
 unfolding are_writable Named

@@ -4,9 +4,9 @@ use Rattle.std.specs.Prelude.{◌≡◌, refl, ◌⊎◌, Bool, true, false, con
 use Rattle.std.proofs.Common.{sym, subst, inl, inr}
 use Rattle.std.proofs.lemmas.Bool.{false≢true}
 use mathlib.Core.List.{List, [], ◌∷◌, ◌++◌}
-use Rattle.graph.specs.Laws.DepthFirst.{path_snoc}
+use Rattle.graph.proofs.Laws.DepthFirst.{path_snoc}
 use Rattle.graph.specs.Members.{◌∈◌, here, there, Each}
-use Rattle.graph.specs.Laws.Members.{mem_nil, mem_cons, mem_append}
+use Rattle.graph.proofs.Laws.Members.{mem_nil, mem_cons, mem_append}
 use Rattle.graph.specs.Graph.{Path⁺, one, more}
 use Rattle.worked.specs.Laws.Solving.{among, among_in, among_out}
 

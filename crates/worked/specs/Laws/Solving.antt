@@ -8,7 +8,7 @@ use Rattle.std.proofs.Math.Bool.{true, false}
 use mathlib.Core.List.{List, [], ◌∷◌, ◌++◌}
 use Rattle.syntax.specs.Token.{pick}
 use Rattle.graph.specs.Members.{◌∈◌, here, there}
-use Rattle.graph.specs.Laws.Members.{mem_nil, mem_cons}
+use Rattle.graph.proofs.Laws.Members.{mem_nil, mem_cons}
 use Rattle.graph.specs.Graph.{Entered, none, again, fresh}
 use Rattle.values.specs.declared.Value.{Value}
 use Rattle.valuation.specs.Gives.{Give, nil, cons}

@@ -13,9 +13,9 @@ use Rattle.syntax.specs.Tree.{Ad, nodes}
 use Rattle.ad.specs.Layout.{stored_words, stored_bytes}
 use Rattle.ad.specs.Stored.{kind_at, node_count, operands, name_at, is_own, is_other, is_reference}
 use Rattle.graph.specs.Members.{◌∈◌, here, there}
-use Rattle.graph.specs.Laws.Members.{mem_nil, mem_cons, mem_left, mem_right, Sides}
+use Rattle.graph.proofs.Laws.Members.{mem_nil, mem_cons, mem_left, mem_right, Sides}
 use Rattle.graph.specs.Graph.{Graph, Sound, Node, Path⁺, Circular, Flags, needs, Entered}
-use Rattle.graph.specs.Laws.Order.{entered_unique}
+use Rattle.graph.proofs.Laws.Order.{entered_unique}
 use Rattle.links.specs.Pair.{inside, across, linked, links_from, numbered, both, refers_at, roots_of, requirements, rank, definition_at, pair_graph, StoredAd}
 use Rattle.links.specs.Laws.Layout.{stored_nodes, stored_formed}
 use Rattle.links.specs.Laws.Finding.{find_tree}

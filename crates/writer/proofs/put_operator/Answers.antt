@@ -5,11 +5,11 @@ use Rattle.writer.proofs.put_operator.Goals as goal
 
 pub put_part-requires : goal.put_part-requires
 unfolding bytes
-put_part-requires c =    operator_near c.args.j _ _ c.operator_start.ensures
+put_part-requires c = operator_near c.args.j _ _ c.operator_start.ensures
     c.operator_end.ensures c.args.at c.requires
 
 pub returns : goal.returns
 unfolding bytes
-returns c =    operator_puts c.args.j _ _
+returns c = operator_puts c.args.j _ _
     c.operator_start.ensures c.operator_end.ensures
     c.put_part.ensures

@@ -6,19 +6,19 @@ use Rattle.writer.proofs.put_unary.Goals as goal
 
 pub put-requires : goal.put-requires
 unfolding unary_text bytes
-put-requires c =    let h = rw c.in-Not.is at
+put-requires c = let h = rw c.in-Not.is at
     c.requires in
     omega arith
 
 pub put-requires-in-Plus : goal.put-requires-in-Plus
 unfolding unary_text bytes
-put-requires-in-Plus c =    let h = rw c.in-Plus.is at
+put-requires-in-Plus c = let h = rw c.in-Plus.is at
     c.requires in
     omega arith
 
 pub put-requires-in-Minus : goal.put-requires-in-Minus
 unfolding unary_text bytes
-put-requires-in-Minus c =    let h = rw c.in-Minus.is at
+put-requires-in-Minus c = let h = rw c.in-Minus.is at
     c.requires in
     omega arith
 
