@@ -15,13 +15,13 @@ returns-then-steps-t c =    match_of c.args.first_words.now c.args.first_bytes.n
     c.args.second_bytes.now c.requires.ads.0.formed c.requires.ads.1.formed
     c.traverse-t.ensures.traversed c.requires.room.1 c.run-steps.ensures
     (omega arith)
-    c.traverse-t.ensures.roots (λ c.requires.room.0. refl) (λ c.requires.room.0. absurd (omega arith))
+    c.traverse-t.ensures.roots (λ h. refl) (λ h. absurd (omega arith))
 
 pub returns : goal.returns
 returns c =    match_of c.args.first_words.now c.args.first_bytes.now c.args.second_words.now
     c.args.second_bytes.now c.requires.ads.0.formed c.requires.ads.1.formed
     c.traverse-t.ensures.traversed c.requires.room.1 c.run-steps.ensures
     (omega arith)
-    c.traverse-t.ensures.roots (λ c.requires.room.0. absurd (omega arith)) (λ c.requires.room.0 i. Finished
+    c.traverse-t.ensures.roots (λ h. absurd (omega arith)) (λ h i. Finished
     (c.conclude-answer.ensures.verdict i) (c.conclude-answer.ensures.ranks.0 i) (c.conclude-answer.ensures.ranks.1 i)
     c.run-steps.result c.traverse-t.result.count)

@@ -163,6 +163,8 @@ Turned x y = y ≡ turned x
 value_turned : (us vs : List Value) → Alike Turned us vs → (i : ℕ) → value_in vs i ≡ turned (value_in us i)
 unfolding value_in
 value_turned [] [] anil i = refl
+value_turned [] (x ∷ vs) l i = elim l [ ]
+value_turned (u ∷ us) [] l i = elim l [ ]
 value_turned (u ∷ us) (x ∷ vs) (acons e l) zero = e
 value_turned (u ∷ us) (x ∷ vs) (acons e l) (suc i) = value_turned us vs l i
 
