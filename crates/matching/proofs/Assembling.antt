@@ -30,9 +30,9 @@ use Rattle.verdict.specs.Verdict.{is_true, rank_of}
 use Rattle.verdict.specs.Inner.Worth.{worth_at}
 use Rattle.verdict.specs.Laws.Marked.{worth_marked}
 use Rattle.matching.specs.Matching.{Worth, Match}
-use Rattle.matching.specs.Laws.Traversed.{entered_of, counted_of}
-use Rattle.matching.specs.Laws.Running.{run_from}
-use Rattle.matching.specs.Laws.Concluding.{worth_of, roots_first, roots_second, ranks_first, ranks_second}
+use Rattle.matching.proofs.Laws.Traversed.{entered_of, counted_of}
+use Rattle.matching.proofs.Laws.Running.{run_from}
+use Rattle.matching.proofs.Laws.Concluding.{worth_of, roots_first, roots_second, ranks_first, ranks_second}
 use Rattle.matching.specs.declared.Outcome.{Outcome}
 use Rattle.matching.specs.declared.Outcome.TheVariants.{Finished, Unfinished}
 

@@ -6,7 +6,7 @@ use mathlib.Core.List.{List, ◌++◌, map, append-nil}
 use lib.ListN.{length, drop, replicate, drop_of_length-le}
 use Rattle.links.specs.Pair.{pair_graph}
 use Rattle.dependency.specs.Traversal.{Traversed}
-use Rattle.matching.specs.Laws.Traversed.{entered_of, counted_of}
+use Rattle.matching.proofs.Laws.Traversed.{entered_of, counted_of}
 use Rattle.ordering.specs.declared.Order.TheVariants.{Found}
 use Rattle.ordering.specs.Ordering.{OrdersBy}
 

@@ -11,7 +11,7 @@ use Rattle.values.specs.declared.Value.{Value}
 use Rattle.values.specs.declared.Value.TheVariants.{Undefined, Error, Boolean, Integer, Real, String}
 use Rattle.verdict.specs.Verdict.{rank_of}
 use Rattle.matching.specs.Matching.{Match}
-use Rattle.matching.specs.Laws.OneAnswer.{match_one}
+use Rattle.matching.proofs.Laws.OneAnswer.{match_one}
 use Rattle.matching.specs.declared.Conclusion.{Conclusion}
 use Rattle.matching.specs.declared.Outcome.{Outcome}
 use Rattle.matching.specs.declared.Outcome.TheVariants.{Refused, Finished}

@@ -8,7 +8,7 @@ use Rattle.links.specs.Pair.{pair_graph}
 use Rattle.values.specs.declared.Value.{Value}
 use Rattle.evaluation.specs.Evaluation.{rule_at, step_words, steps_words, RunTo}
 use Rattle.matching.specs.Matching.{Match}
-use Rattle.matching.specs.Laws.Concluding.{flags_same}
+use Rattle.matching.proofs.Laws.Concluding.{flags_same}
 use Rattle.matching.specs.declared.Outcome.{Outcome}
 
 words_append : (need : ℕ → List ℕ) (rule : ℕ → List Value → Value) (xs ys t : List ℕ) → steps_words need rule (xs ++ ys) t ≡ steps_words need rule ys (steps_words need rule xs t)

@@ -14,14 +14,14 @@ use Rattle.matching.specs.Matching.{Match, Matched, matches, small, table_words}
 use Rattle.admission.specs.Laws.Refusing.{refused_not_admitted}
 use Rattle.admission.specs.Admission.{Refuses, no_room, first_malformed, second_malformed, Admits}
 use Rattle.admission.specs.Laws.Wells.{formed_of}
-use Rattle.matching.specs.Laws.Exchange.{Exchanged, finished, unfinished, exchange}
-use Rattle.matching.specs.Laws.OneAnswer.{match_one}
+use Rattle.matching.proofs.Laws.Exchange.{Exchanged, finished, unfinished, exchange}
+use Rattle.matching.proofs.Laws.OneAnswer.{match_one}
 use Rattle.matching.specs.declared.Outcome.{Outcome}
 use Rattle.matching.specs.declared.Outcome.TheVariants.{Refused, Finished, Unfinished}
 use Rattle.theorems.specs.Texts.{TextsMatch, TextsAnswer, texts_match, of_trees}
 use Rattle.theorems.specs.Existing.{TheAnswer, answer_at}
 use Rattle.text_theorems.specs.Reading.{read_formed}
-use Rattle.theorems.specs.Laws.Budgets.{match_budget}
+use Rattle.theorems.proofs.Laws.Budgets.{match_budget}
 
 -- the answers of a match and of that with the two ads exchanged: refused alike, or `Exchanged`, that is finished with the verdict kept
 -- and the ranks exchanged, or not finished, with the same steps

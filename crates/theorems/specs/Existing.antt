@@ -7,12 +7,12 @@ use Rattle.graph.proofs.Laws.Traversal.{list_unique}
 use Rattle.links.specs.Pair.{pair_graph}
 use Rattle.links.specs.Inner.Asked.{Formed}
 use Rattle.matching.specs.Matching.{Match}
-use Rattle.matching.specs.Laws.OneAnswer.{Same, match_one, count_one}
+use Rattle.matching.proofs.Laws.OneAnswer.{Same, match_one, count_one}
 use Rattle.matching.specs.declared.Outcome.{Outcome}
 use Rattle.matching.specs.declared.Outcome.TheVariants.{Finished, Unfinished}
 use Rattle.theorems.specs.Listing.{Done, match_list}
-use Rattle.theorems.specs.Laws.Making.{found}
-use Rattle.theorems.specs.Laws.Budgets.{match_budget}
+use Rattle.theorems.proofs.Laws.Making.{found}
+use Rattle.theorems.proofs.Laws.Budgets.{match_budget}
 
 -- THE MATCH of two ads with a budget: there is one, and every other is the same
 pub record TheMatch (v b w c : List ℕ) (budget : ℕ) : Type 0 where

@@ -5,5 +5,3 @@ pub mod Exchanging
 pub mod Answering
 pub mod Continuing
 pub mod Fronts
-pub mod Laws
-pub mod Statements

@@ -16,7 +16,7 @@ use Rattle.matching.specs.declared.Outcome.{Outcome}
 use Rattle.matching.specs.declared.Outcome.TheVariants.{Refused}
 use Rattle.acceptance.specs.Acceptance.{read_matches}
 use Rattle.worked.specs.Table.{Row, Comes, Holds, AllHold, table, fault}
-use Rattle.worked.specs.Examples.{worked, fault_unmatched}
+use Rattle.worked.proofs.Examples.{worked, fault_unmatched}
 use Rattle.theorems.specs.Listing.{Within, matched_list}
 use Rattle.theorems.specs.Existing.{answer_at, answer_exists}
 use Rattle.text_theorems.specs.Reading.{ReadAs, read_answered, accepted_tree, read_formed, front_words, front_bytes, front_nodes}

@@ -6,19 +6,19 @@ use borrow.Author.Rules.{rules}
 use Rattle.matching.proofs.match_marked.Goals as goal
 
 pub run-steps-requires : goal.run-steps-requires
-run-steps-requires c =    at_run c.args.first_words.now c.args.first_bytes.now c.args.second_words.now
+run-steps-requires c = at_run c.args.first_words.now c.args.first_bytes.now c.args.second_words.now
     c.args.second_bytes.now c.requires.ads.0.formed c.requires.ads.1.formed
     c.traverse-t.ensures.traversed (omega arith) (omega arith) (clear_long c.requires.room.1)
 
 pub returns-then-steps-t : goal.returns-then-steps-t
-returns-then-steps-t c =    match_of c.args.first_words.now c.args.first_bytes.now c.args.second_words.now
+returns-then-steps-t c = match_of c.args.first_words.now c.args.first_bytes.now c.args.second_words.now
     c.args.second_bytes.now c.requires.ads.0.formed c.requires.ads.1.formed
     c.traverse-t.ensures.traversed c.requires.room.1 c.run-steps.ensures
     (omega arith)
     c.traverse-t.ensures.roots (λ h. refl) (λ h. absurd (omega arith))
 
 pub returns : goal.returns
-returns c =    match_of c.args.first_words.now c.args.first_bytes.now c.args.second_words.now
+returns c = match_of c.args.first_words.now c.args.first_bytes.now c.args.second_words.now
     c.args.second_bytes.now c.requires.ads.0.formed c.requires.ads.1.formed
     c.traverse-t.ensures.traversed c.requires.room.1 c.run-steps.ensures
     (omega arith)

@@ -31,9 +31,9 @@ use Rattle.evaluation.specs.Evaluation.{node_from}
 use Rattle.trees.specs.Nodes.{Node, leaf, refers, of_one, of_two, of_three, last_of, words_of, bytes_of, Says}
 use Rattle.trees.specs.Links.{leads, is_reference, tree_graph}
 use Rattle.trees.specs.Values.{Denotes, ad_of, side_of, Means, is_literal_lem, is_circular, is_absent, is_found, is_unary, is_binary, is_conditional, Part, whole, under, left, right, test, taken, otherwise}
-use Rattle.trees.specs.Laws.Parts.{top_of, part_writable}
-use Rattle.trees.specs.Laws.Own.{Looked, nowhere, somewhere, look, finds_defines, own_leaf, stored_long, holds, links_own, ref_own, rule_own, said, rule_in, leads_name}
-use Rattle.trees.specs.Laws.Returning.{returns_circular, circular_returns}
+use Rattle.trees.proofs.Laws.Parts.{top_of, part_writable}
+use Rattle.trees.proofs.Laws.Own.{Looked, nowhere, somewhere, look, finds_defines, own_leaf, stored_long, holds, links_own, ref_own, rule_own, said, rule_in, leads_name}
+use Rattle.trees.proofs.Laws.Returning.{returns_circular, circular_returns}
 
 -- ---- literals
 

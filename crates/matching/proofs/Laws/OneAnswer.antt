@@ -9,7 +9,7 @@ use Rattle.links.specs.Pair.{pair_graph, pair_slots}
 use Rattle.evaluation.specs.Evaluation.{rule_at, steps_words}
 use Rattle.matching.specs.Matching.{Concluded, Counted, Match, table_words, Matched, refused, matches}
 use Rattle.admission.specs.Laws.Refusing.{refuses_one, refused_not_admitted}
-use Rattle.matching.specs.Laws.Concluding.{flags_same, worth_unique}
+use Rattle.matching.proofs.Laws.Concluding.{flags_same, worth_unique}
 use Rattle.matching.specs.declared.Outcome.{Outcome}
 use Rattle.matching.specs.declared.Outcome.TheVariants.{Refused, Unfinished}
 

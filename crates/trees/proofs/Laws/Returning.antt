@@ -14,8 +14,8 @@ use Rattle.well_formed.specs.WellFormed.{Holds}
 use Rattle.trees.specs.Nodes.{refers, last_of, nth_node}
 use Rattle.trees.specs.Links.{leads, is_reference, tree_graph}
 use Rattle.trees.specs.Values.{ad_of, side_of, Finds, found_first, found_later, Leads, to_operand, to_left, to_right, to_test, to_second, to_third, to_definition, LeadsOn, at_once, and_on, Returns, Part, whole, under, left, right, test, taken, otherwise}
-use Rattle.trees.specs.Laws.Parts.{top_of, top}
-use Rattle.trees.specs.Laws.Own.{Looked, nowhere, somewhere, look, finds_defines, own_leaf, links_own, ref_own, leads_name, low}
+use Rattle.trees.proofs.Laws.Parts.{top_of, top}
+use Rattle.trees.proofs.Laws.Own.{Looked, nowhere, somewhere, look, finds_defines, own_leaf, links_own, ref_own, leads_name, low}
 
 -- ---- numbers
 

@@ -13,7 +13,7 @@ use Rattle.slots.proofs.Round.{unpack_pack, same_slot, other_slot}
 use Rattle.valuation.specs.Run.{step_table, steps}
 use Rattle.evaluation.specs.Evaluation.{rule_at, seen, step_words, steps_words}
 use Rattle.evaluation.specs.Laws.Words.{step_stored}
-use Rattle.theorems.specs.Laws.Sizes.{rule_sized}
+use Rattle.theorems.proofs.Laws.Sizes.{rule_sized}
 
 put_stored : (t : List ℕ) (x : ℕ) (s : Slot) → SizedSlot s → Stored t (put_at t x s) x s
 put_stored t x s h = record { whole = refl; holds = λ k. same_slot t x s k (unpack_pack s h); keeps = other_slot t x s }

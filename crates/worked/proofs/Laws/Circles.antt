@@ -8,7 +8,7 @@ use Rattle.graph.proofs.Laws.DepthFirst.{path_snoc}
 use Rattle.graph.specs.Members.{◌∈◌, here, there, Each}
 use Rattle.graph.proofs.Laws.Members.{mem_nil, mem_cons, mem_append}
 use Rattle.graph.specs.Graph.{Path⁺, one, more}
-use Rattle.worked.specs.Laws.Solving.{among, among_in, among_out}
+use Rattle.worked.proofs.Laws.Solving.{among, among_in, among_out}
 
 pub cond_both : (a b : Bool) → cond a b false ≡ true → (a ≡ true) × (b ≡ true)
 cond_both true b e = (refl, e)

@@ -22,7 +22,7 @@ use Rattle.links.specs.Laws.Layout.{stored_nodes}
 use Rattle.links.specs.Laws.Finding.{find_tree}
 use Rattle.trees.specs.Nodes.{Node, leaf, refers, of_one, of_two, of_three, nodes_in, nth_node, operands_of, words_of, Says}
 use Rattle.trees.specs.Links.{leads, is_reference, leads_from, is_reference_at, tree_graph}
-use Rattle.trees.specs.Laws.Stored.{length_in, stored_node, said_name}
+use Rattle.trees.proofs.Laws.Stored.{length_in, stored_node, said_name}
 
 -- ---- a list by its index
 

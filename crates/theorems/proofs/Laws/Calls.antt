@@ -45,7 +45,7 @@ use Rattle.acceptance.specs.Acceptance.{read_matches}
 use Rattle.trees.specs.Nodes.{last_of}
 use Rattle.trees.specs.Links.{tree_graph}
 use Rattle.trees.specs.Values.{ad_of, Means, Worths, Part}
-use Rattle.trees.specs.Theorems.{graph_is, list_is, entry_is, answer_is}
+use Rattle.trees.proofs.Theorems.{graph_is, list_is, entry_is, answer_is}
 use Rattle.theorems.specs.Listing.{steps_of, count_of, match_list}
 use Rattle.text_theorems.specs.Reading.{ReadAs, accepted_tree, read_formed, tree_holds, front_words, front_bytes, front_nodes}
 use Rattle.theorems.specs.Texts.{TreesMatch, trees_match}

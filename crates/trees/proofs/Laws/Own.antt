@@ -26,9 +26,9 @@ use Rattle.evaluation.specs.Evaluation.{node_from, rule_at}
 use Rattle.trees.specs.Nodes.{Node, leaf, refers, last_of, nodes_in, Says}
 use Rattle.trees.specs.Links.{leads, is_reference, leads_from, is_reference_at, tree_graph}
 use Rattle.trees.specs.Values.{ad_of, side_of, Finds, found_first, found_later, Defines, defines_first, defines_later, Part}
-use Rattle.trees.specs.Laws.Stored.{length_in, stored_node}
-use Rattle.trees.specs.Laws.Graph.{map_at}
-use Rattle.trees.specs.Laws.Parts.{top_of, top}
+use Rattle.trees.proofs.Laws.Stored.{length_in, stored_node}
+use Rattle.trees.proofs.Laws.Graph.{map_at}
+use Rattle.trees.proofs.Laws.Parts.{top_of, top}
 
 -- ---- names
 

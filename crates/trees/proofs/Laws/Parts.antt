@@ -9,7 +9,7 @@ use Rattle.syntax.specs.Inner.Lexeme.{is_name}
 use Rattle.round_trip.specs.Bounded.{is_writable, are_writable}
 use Rattle.trees.specs.Nodes.{Node, leaf, refers, of_one, of_two, of_three, last_of, nodes_of, nodes_in, nth_node}
 use Rattle.trees.specs.Values.{Defines, defines_first, defines_later, Part, whole, under, left, right, test, taken, otherwise}
-use Rattle.trees.specs.Laws.Stored.{length_of, length_in}
+use Rattle.trees.proofs.Laws.Stored.{length_of, length_in}
 
 -- the nodes l hold those of e, from node n on, l beginning with node k
 record Split (l : List Node) (k n : ℕ) (e : Expr) : Type 0 where

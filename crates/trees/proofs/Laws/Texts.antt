@@ -29,7 +29,7 @@ use Rattle.comparison.specs.Inner.Operands.{comparison_result}
 use Rattle.comparison.specs.Laws.Strict.{comparison_by_pair}
 use Rattle.operators.specs.Operators.{binary_value, unary_value}
 use Rattle.trees.specs.Values.{Denotes, ad_of, Means, is_literal_lem, is_circular, is_absent, is_found, is_unary, is_binary, is_conditional, Part, whole, taken, otherwise, FromLiteral}
-use Rattle.trees.specs.Laws.Own.{finds_defines}
+use Rattle.trees.proofs.Laws.Own.{finds_defines}
 
 -- no String
 data Plain : Value → Type 0 where

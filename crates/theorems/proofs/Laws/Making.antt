@@ -26,10 +26,10 @@ use Rattle.valuation.proofs.Laws.Runs.{run_ran}
 use Rattle.evaluation.specs.Evaluation.{rule_at, seen, steps_words}
 use Rattle.verdict.specs.Verdict.{is_true, rank_of}
 use Rattle.matching.specs.Matching.{Worth, Counted, Match}
-use Rattle.matching.specs.Laws.Concluding.{flags_same, worth_of, roots_first, roots_second, ranks_first, ranks_second}
+use Rattle.matching.proofs.Laws.Concluding.{flags_same, worth_of, roots_first, roots_second, ranks_first, ranks_second}
 use Rattle.matching.specs.declared.Outcome.{Outcome}
 use Rattle.matching.specs.declared.Outcome.TheVariants.{Finished, Unfinished}
-use Rattle.theorems.specs.Laws.Slots.{steps_slots}
+use Rattle.theorems.proofs.Laws.Slots.{steps_slots}
 
 -- ---- a match, from the circular references, the list and the count of moves
 

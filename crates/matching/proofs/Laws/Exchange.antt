@@ -30,7 +30,7 @@ use Rattle.valuation.proofs.Laws.Exchange.{list_exchanged}
 use Rattle.evaluation.specs.Evaluation.{node_from, node_at, rule_at}
 use Rattle.verdict.specs.Verdict.{is_true, rank_of}
 use Rattle.matching.specs.Matching.{Worth, absent, present, Concluded, Match}
-use Rattle.matching.specs.Laws.Concluding.{roots_first, roots_second, ranks_first, ranks_second, roots_from_lem}
+use Rattle.matching.proofs.Laws.Concluding.{roots_first, roots_second, ranks_first, ranks_second, roots_from_lem}
 use Rattle.matching.specs.declared.Outcome.{Outcome}
 use Rattle.matching.specs.declared.Outcome.TheVariants.{Finished, Unfinished}
 

@@ -8,7 +8,7 @@ use Rattle.graph.specs.Transition.{State}
 use Rattle.marks.specs.Inner.Memory.{view}
 use Rattle.dependency.specs.Traversal.{Traversed}
 use Rattle.matching.specs.Matching.{Counted}
-use Rattle.matching.specs.Laws.Concluding.{flags_same}
+use Rattle.matching.proofs.Laws.Concluding.{flags_same}
 
 module _ {G : Graph} {count len : ℕ} {ta fl ls : List ℕ} (t : Traversed G count len ta fl ls) where
   -- the list is that of the flags

@@ -26,14 +26,14 @@ use Rattle.valuation.specs.Gives.{Give, nil, cons, Gives}
 use Rattle.evaluation.specs.Evaluation.{rule_at}
 use Rattle.verdict.specs.Verdict.{is_true, rank_of}
 use Rattle.matching.specs.Matching.{Worth, absent, present, Match}
-use Rattle.matching.specs.Laws.Concluding.{flags_same, worth_unique}
+use Rattle.matching.proofs.Laws.Concluding.{flags_same, worth_unique}
 use Rattle.matching.specs.declared.Outcome.{Outcome}
 use Rattle.matching.specs.declared.Outcome.TheVariants.{Finished}
 use Rattle.slots.specs.declared.Slot.TheVariants.{Held}
 use Rattle.slots.specs.Packed.{slot_at}
 use Rattle.worked.specs.Table.{Gift, Row, Given, InSlots, Comes}
-use Rattle.worked.specs.Laws.Solving.{given, attempt, attempted, list, among, among_in, enters, entered_by}
-use Rattle.worked.specs.Laws.Circles.{cond_both, either, returns, enough, returns_path, path_returns}
+use Rattle.worked.proofs.Laws.Solving.{given, attempt, attempted, list, among, among_in, enters, entered_by}
+use Rattle.worked.proofs.Laws.Circles.{cond_both, either, returns, enough, returns_path, path_returns}
 
 -- ---- links and roots by the trees: nothing is counted or looked up in words
 

@@ -68,9 +68,9 @@ use Rattle.evaluation.specs.Evaluation.{rule_at, seen, needed, entries, Stepped,
 use Rattle.verdict.specs.Verdict.{is_true, rank_of}
 use Rattle.matching.specs.Matching.{Match, small, Matched}
 use Rattle.admission.specs.Admission.{Well}
-use Rattle.matching.specs.Laws.Exchange.{Exchanged}
-use Rattle.matching.specs.Laws.OneAnswer as matching
-use Rattle.matching.specs.Laws.Running as running
+use Rattle.matching.proofs.Laws.Exchange.{Exchanged}
+use Rattle.matching.proofs.Laws.OneAnswer as matching
+use Rattle.matching.proofs.Laws.Running as running
 use Rattle.matching.specs.declared.Outcome.{Outcome}
 use Rattle.matching.specs.declared.Outcome.TheVariants as outcome
 use Rattle.ordering.specs.Ordering.{Ordered}
@@ -80,7 +80,7 @@ use Rattle.acceptance.specs.Acceptance as acceptance
 use Rattle.trees.specs.Nodes.{last_of}
 use Rattle.trees.specs.Links.{tree_graph}
 use Rattle.trees.specs.Values.{ad_of, Returns, Means, Same, Worths, Part, FromLiteral}
-use Rattle.trees.specs.Theorems as trees
+use Rattle.trees.proofs.Theorems as trees
 use Rattle.theorems.specs.Listing.{steps_of, count_of}
 use Rattle.text_theorems.specs.Reading as readings
 use Rattle.theorems.specs.Texts as texts
@@ -91,7 +91,7 @@ use Rattle.text_theorems.specs.Printing as printing
 use Rattle.theorems.specs.Answering as answering
 use Rattle.theorems.specs.Continuing as continuing
 use Rattle.theorems.specs.Fronts as fronts
-use Rattle.theorems.specs.Laws.Calls as calls
+use Rattle.theorems.proofs.Laws.Calls as calls
 
 -- ==== What an ad is here
 

@@ -25,7 +25,7 @@ use Rattle.valuation.specs.Run.{Settled}
 use Rattle.valuation.proofs.Laws.Order.{Ordered, onil, ordered_take, ordered_drop, entered_ordered}
 use Rattle.valuation.proofs.Laws.Runs.{run_settled, steps_right}
 use Rattle.evaluation.specs.Evaluation.{rule_at, seen, needed, entries, RunTo}
-use Rattle.matching.specs.Laws.Concluding.{flags_same}
+use Rattle.matching.proofs.Laws.Concluding.{flags_same}
 
 -- the slot of the node x holds its value: 'A node's value is what the rules make of the values of its needs'
 abbrev pub HoldsValue : (need : ℕ → List ℕ) → (rule : ℕ → List Value → Value) → List ℕ → ℕ → Type 0

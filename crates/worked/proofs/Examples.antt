@@ -20,9 +20,9 @@ use Rattle.evaluation.specs.Evaluation.{rule_at}
 use Rattle.verdict.specs.Verdict.{is_true, rank_of}
 use Rattle.worked.specs.Table as table
 use Rattle.worked.specs.Table.{Row, Holds, AllHold, alone, fault}
-use Rattle.worked.specs.Laws.Solving.{given, try_with, attempt, list, among, behind, enter_with, enters}
-use Rattle.worked.specs.Laws.Circles.{reached, within, closed_in}
-use Rattle.worked.specs.Laws.Trees.{tree_from, tree_links, tree_refers, tree_root, tree_roots, tree_nodes, up_to, need, circles, all_tried, circles_are, Tries, Lists, comes}
+use Rattle.worked.proofs.Laws.Solving.{given, try_with, attempt, list, among, behind, enter_with, enters}
+use Rattle.worked.proofs.Laws.Circles.{reached, within, closed_in}
+use Rattle.worked.proofs.Laws.Trees.{tree_from, tree_links, tree_refers, tree_root, tree_roots, tree_nodes, up_to, need, circles, all_tried, circles_are, Tries, Lists, comes}
 
 -- 'definitions `name = expression`'
 unfoldable defined_as : List ℕ → Expr → Definition

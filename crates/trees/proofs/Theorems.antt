@@ -29,15 +29,15 @@ use Rattle.matching.specs.declared.Outcome.TheVariants.{Finished}
 use Rattle.trees.specs.Nodes.{last_of, nth_node, Says}
 use Rattle.trees.specs.Links.{tree_graph}
 use Rattle.trees.specs.Values.{ad_of, Returns, Means, Same, Worths, has_none, has_one, Part, whole, FromLiteral}
-use Rattle.trees.specs.Laws.Stored.{stored_node}
-use Rattle.trees.specs.Laws.Graph.{counted, pair_tree}
-use Rattle.trees.specs.Laws.Parts.{Owned, owned}
+use Rattle.trees.proofs.Laws.Stored.{stored_node}
+use Rattle.trees.proofs.Laws.Graph.{counted, pair_tree}
+use Rattle.trees.proofs.Laws.Parts.{Owned, owned}
 use Rattle.admission.specs.Laws.Wells.{stored_of}
-use Rattle.trees.specs.Laws.Own.{Looked, nowhere, somewhere, look, finds_defines, node_own}
-use Rattle.trees.specs.Laws.Returning.{returns_circular, circular_returns}
-use Rattle.trees.specs.Laws.Meaning.{gives_means}
-use Rattle.trees.specs.Laws.Same.{one_meaning, one_worth}
-use Rattle.trees.specs.Laws.Texts.{from_literal}
+use Rattle.trees.proofs.Laws.Own.{Looked, nowhere, somewhere, look, finds_defines, node_own}
+use Rattle.trees.proofs.Laws.Returning.{returns_circular, circular_returns}
+use Rattle.trees.proofs.Laws.Meaning.{gives_means}
+use Rattle.trees.proofs.Laws.Same.{one_meaning, one_worth}
+use Rattle.trees.proofs.Laws.Texts.{from_literal}
 
 -- ---- one ad
 
