@@ -1,10 +1,7 @@
-use borrow.Author.Rules.{rules}
-use native.Mathlib.Omega.{arith}
-use mathlib.Core.Path.{◌≡◌, refl, ◌∙◌}
+use mathlib.Core.Path.{◌≡◌}
 use Prim.Native.Nat.{◌+◌, ◌-◌, ◌≤◌}
-use lib.ListN.{length, length-set}
+use lib.ListN.{length}
 use lib.Seq.{sets, slice}
-use Rattle.ad.proofs.Laws.{copy_step, copy_end}
 use Rattle.ad.proofs.copy.Given as goal
 
 abbrev pub invariant-loop-i : goal.invariant-loop-i

@@ -1,8 +1,5 @@
-use borrow.Author.Rules.{rules}
 use native.Mathlib.Omega.{arith}
-use mathlib.Core.Path.{◌≡◌, sym, ◌∙◌}
-use Prim.Native.Nat.{◌-◌, ◌≤◌}
-use Rattle.ad.specs.Inner.Names.{defined_in}
+use mathlib.Core.Path.{sym, ◌∙◌}
 use Rattle.ad.proofs.Laws.{look_more, look_found, look_end, look_all}
 use Rattle.ad.proofs.defined.Goals as goal
 

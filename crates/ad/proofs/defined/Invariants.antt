@@ -1,9 +1,6 @@
-use borrow.Author.Rules.{rules}
-use native.Mathlib.Omega.{arith}
-use mathlib.Core.Path.{◌≡◌, sym, ◌∙◌}
+use mathlib.Core.Path.{◌≡◌}
 use Prim.Native.Nat.{◌-◌, ◌≤◌}
 use Rattle.ad.specs.Inner.Names.{defined_in}
-use Rattle.ad.proofs.Laws.{look_more, look_found, look_end, look_all}
 use Rattle.ad.proofs.defined.Given as goal
 
 abbrev pub invariant-loop-j : goal.invariant-loop-j

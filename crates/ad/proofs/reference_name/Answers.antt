@@ -1,4 +1,3 @@
-use borrow.Author.Rules.{rules}
 use Rattle.ad.proofs.reference_name.Goals as goal
 
 pub returns : goal.returns

@@ -1,7 +1,6 @@
 use native.Mathlib.Omega.{arith}
 use native.Mathlib.Numerals.{towards_suc}
 use lib.ListN.{length-set}
-use borrow.Author.Rules.{rules}
 use Rattle.ad.proofs.store_definition.Goals as goal
 
 pub bounds-words-first-2 : goal.bounds-words-first-2

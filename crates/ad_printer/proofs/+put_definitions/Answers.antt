@@ -1,9 +1,7 @@
-use Prim.Native.Nat.{ℕ, ◌+◌, ◌-◌, ◌<◌}
+use Prim.Native.Nat.{◌+◌, ◌<◌}
 use Rattle.text.specs.Bytes.{bytes}
 use Rattle.ad_printer.proofs.Definitions.{none_written, row_fits, one_row, semicolon_near, rest_fits, more_rows}
-use borrow.Author.Rules.{rules}
 use native.Mathlib.Omega.{arith}
-use Prim.Native.Nat.{ℕ, ◌<◌}
 use Rattle.ad_printer.proofs.+put_definitions.Goals as goal
 
 pub returns-then-d-j : goal.returns-then-d-j

@@ -1,5 +1,4 @@
 use Rattle.ad_printer.proofs.Definitions.{opened, closing_near, ad_written}
-use borrow.Author.Rules.{rules}
 use Rattle.ad_printer.proofs.put_ad.Goals as goal
 
 pub put_definitions-m-requires : goal.put_definitions-m-requires

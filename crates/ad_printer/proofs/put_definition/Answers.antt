@@ -7,7 +7,6 @@ use Rattle.writer.proofs.Laws.{puts_as}
 use Rattle.ad_printer.proofs.Definitions.{name_near, equals_near, root_fits, row_written}
 use Rattle.tree_printer.proofs.Trees.{tree_fits_as, tree_written_as}
 use Rattle.ad.specs.Stored.{root_at, bytes_at}
-use borrow.Author.Rules.{rules}
 use Rattle.ad_printer.proofs.put_definition.Goals as goal
 
 pub offset-first-requires : goal.offset-first-requires

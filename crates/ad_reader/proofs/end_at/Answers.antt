@@ -1,5 +1,4 @@
 use Rattle.ad_reader.proofs.Laws.{end_here, end_bad, end_more}
-use borrow.Author.Rules.{rules}
 use Rattle.ad_reader.proofs.end_at.Goals as goal
 
 pub returns-in-End : goal.returns-in-End

@@ -1,7 +1,6 @@
 use native.Mathlib.Omega.{arith}
 use Rattle.leaves.specs.Inner.Marks.{memory}
 use Rattle.ad_reader.proofs.Laws.{ad_none, ad_read}
-use borrow.Author.Rules.{rules}
 use Rattle.ad_reader.proofs.read_ad.Goals as goal
 
 pub read_definitions-requires : goal.read_definitions-requires

@@ -1,7 +1,6 @@
 use mathlib.Core.Path.{sym, ◌∙◌}
 use Rattle.admission.specs.Admission.{no_room, first_malformed, second_malformed}
 use Rattle.admission.specs.Laws.Wells.{well_measured, malformed}
-use borrow.Author.Rules.{rules}
 use Rattle.admission.proofs.admit.Goals as goal
 
 pub returns-then-too_small : goal.returns-then-too_small

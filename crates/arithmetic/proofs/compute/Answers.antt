@@ -2,7 +2,6 @@
 use mathlib.Core.Path.{ap, ◌∙◌}
 use Rattle.values.specs.declared.Value.TheVariants.{Real}
 use Rattle.arithmetic.proofs.Pairs.{arithmetic_of}
-use borrow.Author.Rules.{rules}
 use Rattle.arithmetic.proofs.compute.Goals as goal
 
 pub returns-in-Refused : goal.returns-in-Refused

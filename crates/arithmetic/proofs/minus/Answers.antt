@@ -1,7 +1,6 @@
 -- `arithmetic::minus` meets its contract. Assumes nothing.
 use mathlib.Core.Path.{ap}
 use Rattle.values.specs.declared.Value.TheVariants.{Integer}
-use borrow.Author.Rules.{rules}
 use Rattle.arithmetic.proofs.minus.Goals as goal
 
 pub returns-in-Integer : goal.returns-in-Integer

@@ -2,7 +2,6 @@
 use mathlib.Core.Path.{ap}
 use borrow.Author.Tests.{eq-eqb, ne_eqb}
 use Rattle.values.specs.declared.Value.TheVariants.{Integer}
-use borrow.Author.Rules.{rules}
 use Rattle.arithmetic.proofs.of_integers.Goals as goal
 
 pub returns-then-y-eq0 : goal.returns-then-y-eq0

@@ -1,5 +1,4 @@
 -- `arithmetic::of_reals` meets its contract. Assumes nothing.
-use borrow.Author.Rules.{rules}
 use Rattle.arithmetic.proofs.of_reals.Goals as goal
 
 pub returns-in-Sum : goal.returns-in-Sum

@@ -1,5 +1,4 @@
 -- `arithmetic::plus` meets its contract. Assumes nothing.
-use borrow.Author.Rules.{rules}
 use Rattle.arithmetic.proofs.plus.Goals as goal
 
 pub returns-in-Integer : goal.returns-in-Integer

@@ -1,6 +1,5 @@
 use mathlib.Core.Path.{refl}
 use Rattle.c_checking.proofs.Checking.{small_words, small_bytes, checked}
-use borrow.Author.Rules.{rules}
 use Rattle.c_checking.proofs.check.Goals as goal
 
 pub returns-then-words-lt-WORDS : goal.returns-then-words-lt-WORDS

@@ -1,4 +1,3 @@
-use borrow.Author.Rules.{rules}
 use Rattle.c_checking.proofs.check_numbers.Goals as goal
 
 pub returns-in-WellFormed : goal.returns-in-WellFormed

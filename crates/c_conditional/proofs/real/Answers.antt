@@ -3,7 +3,6 @@ use mathlib.Core.Path.{ap, subst}
 use Rattle.values.specs.declared.Value.TheVariants.{Real}
 use Rattle.slots.specs.declared.Slot.TheVariants.{Held}
 use Rattle.slots.specs.Packed.{Stored}
-use borrow.Author.Rules.{rules}
 use Rattle.c_conditional.proofs.real.Goals as goal
 
 pub returns : goal.returns

@@ -3,7 +3,6 @@ use mathlib.Core.Path.{subst, ◌∙◌}
 use Rattle.c_operators.specs.Operators.{binary_slot}
 use Rattle.c_conditional.proofs.Three.{ap₃}
 use Rattle.slots.specs.Packed.{Stored}
-use borrow.Author.Rules.{rules}
 use Rattle.c_operators.proofs.binary.Goals as goal
 
 pub returns : goal.returns

@@ -1,4 +1,3 @@
-use borrow.Author.Rules.{rules}
 use Rattle.c_operators.proofs.Naming.{two_named, no_two}
 use Rattle.c_operators.proofs.binary_named.Goals as goal
 

@@ -1,7 +1,6 @@
 -- `c_operators::binary_slot` meets its contract. Assumes nothing.
 use mathlib.Core.Path.{ap}
 use Rattle.slots.specs.declared.Slot.TheVariants.{Held}
-use borrow.Author.Rules.{rules}
 use Rattle.c_operators.proofs.binary_slot.Goals as goal
 
 pub returns-in_default-a : goal.returns-in_default-a

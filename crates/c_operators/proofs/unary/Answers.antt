@@ -2,7 +2,6 @@
 use mathlib.Core.Path.{ap₂, subst, ◌∙◌}
 use Rattle.c_operators.specs.Operators.{unary_slot}
 use Rattle.slots.specs.Packed.{Stored}
-use borrow.Author.Rules.{rules}
 use Rattle.c_operators.proofs.unary.Goals as goal
 
 pub returns : goal.returns

@@ -1,4 +1,3 @@
-use borrow.Author.Rules.{rules}
 use Rattle.c_operators.proofs.Naming.{one_named, no_one}
 use Rattle.c_operators.proofs.unary_named.Goals as goal
 

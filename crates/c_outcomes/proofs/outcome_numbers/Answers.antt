@@ -1,4 +1,3 @@
-use borrow.Author.Rules.{rules}
 use Rattle.c_outcomes.proofs.outcome_numbers.Goals as goal
 
 pub returns-in-Refused : goal.returns-in-Refused

@@ -2,7 +2,6 @@
 use mathlib.Core.Path.{◌∙◌, sym, ap}
 use Rattle.holders.proofs.Holders.{holder_inside}
 use Rattle.c_places.specs.Inspecting.{holder_numbers}
-use borrow.Author.Rules.{rules}
 use Rattle.c_places.proofs.definition.Goals as goal
 
 pub offset-requires : goal.offset-requires

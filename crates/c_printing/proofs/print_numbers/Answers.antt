@@ -1,4 +1,3 @@
-use borrow.Author.Rules.{rules}
 use Rattle.c_printing.proofs.print_numbers.Goals as goal
 
 pub returns-in-Text : goal.returns-in-Text

@@ -1,5 +1,4 @@
 -- `c_reading::numbers` meets its contract. Assumes nothing.
-use borrow.Author.Rules.{rules}
 use Rattle.c_reading.proofs.numbers.Goals as goal
 
 pub returns-in-Accepted : goal.returns-in-Accepted

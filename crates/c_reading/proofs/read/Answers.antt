@@ -2,7 +2,6 @@
 use mathlib.Core.Path.{ap, subst, ◌∙◌}
 use Rattle.reader.specs.Content.{Answered}
 use Rattle.c_reading.specs.Reading.{numbers_of}
-use borrow.Author.Rules.{rules}
 use Rattle.c_reading.proofs.read.Goals as goal
 
 pub returns : goal.returns

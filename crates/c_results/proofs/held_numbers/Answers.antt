@@ -1,6 +1,5 @@
 -- `c_results::held_numbers` meets its contract. Assumes nothing.
 use mathlib.Core.Path.{refl}
-use borrow.Author.Rules.{rules}
 use Rattle.c_results.proofs.held_numbers.Goals as goal
 
 pub returns-in-Boolean : goal.returns-in-Boolean

@@ -1,7 +1,6 @@
 -- `c_results::string` meets its contract. Assumes nothing.
 use mathlib.Core.Path.{refl}
 use Rattle.c_results.proofs.Inspected.{placed}
-use borrow.Author.Rules.{rules}
 use Rattle.c_results.proofs.string.Goals as goal
 
 pub returns : goal.returns

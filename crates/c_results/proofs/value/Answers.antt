@@ -1,7 +1,6 @@
 -- `c_results::value` meets its contract. Assumes nothing.
 use mathlib.Core.Path.{◌∙◌, ap}
 use Rattle.c_results.specs.Showing.{slot_numbers}
-use borrow.Author.Rules.{rules}
 use Rattle.c_results.proofs.value.Goals as goal
 
 pub returns : goal.returns

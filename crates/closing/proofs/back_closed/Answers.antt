@@ -1,5 +1,4 @@
 use Rattle.closing.proofs.Closing.{closed_none, closed_last, closed_some}
-use borrow.Author.Rules.{rules}
 use Rattle.closing.proofs.back_closed.Goals as goal
 
 pub returns-then-p-eq0 : goal.returns-then-p-eq0

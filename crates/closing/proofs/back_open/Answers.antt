@@ -1,5 +1,4 @@
 use Rattle.closing.proofs.Closing.{open_none, open_some}
-use borrow.Author.Rules.{rules}
 use Rattle.closing.proofs.back_open.Goals as goal
 
 pub returns-then-p-eq0 : goal.returns-then-p-eq0

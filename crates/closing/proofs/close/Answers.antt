@@ -1,6 +1,5 @@
 use mathlib.Core.Path.{refl}
 use Rattle.closing.proofs.Closing.{close_last, close_newer}
-use borrow.Author.Rules.{rules}
 use Rattle.closing.proofs.close.Goals as goal
 
 pub returns-then-top-x : goal.returns-then-top-x

@@ -1,5 +1,4 @@
 use Rattle.closing.proofs.Closing.{next_none, next_some}
-use borrow.Author.Rules.{rules}
 use Rattle.closing.proofs.next_open.Goals as goal
 
 pub returns-then-q-eq0 : goal.returns-then-q-eq0

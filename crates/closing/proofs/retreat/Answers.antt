@@ -1,6 +1,5 @@
 use mathlib.Core.Path.{refl}
 use Rattle.closing.proofs.Closing.{retreat_open, retreat_close}
-use borrow.Author.Rules.{rules}
 use Rattle.closing.proofs.retreat.Goals as goal
 
 pub returns-then-low-read : goal.returns-then-low-read

@@ -3,7 +3,6 @@ use mathlib.Core.Path.{ap, ◌∙◌}
 use Rattle.values.specs.declared.Value.TheVariants.{Boolean}
 use Rattle.comparison.specs.Comparison.{order_holds}
 use Rattle.comparison.proofs.Pairs.{comparison_of}
-use borrow.Author.Rules.{rules}
 use Rattle.comparison.proofs.compare.Goals as goal
 
 pub returns-in-Refused : goal.returns-in-Refused

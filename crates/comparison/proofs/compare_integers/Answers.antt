@@ -1,7 +1,6 @@
 -- `comparison::compare_integers` meets its contract. Assumes nothing.
 use mathlib.Core.Path.{ap}
 use mathlib.Core.Bool.{not}
-use borrow.Author.Rules.{rules}
 use Rattle.comparison.proofs.compare_integers.Goals as goal
 
 pub returns-in-Equal : goal.returns-in-Equal

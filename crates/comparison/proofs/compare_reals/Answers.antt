@@ -1,5 +1,4 @@
 -- `comparison::compare_reals` meets its contract. Assumes nothing.
-use borrow.Author.Rules.{rules}
 use Rattle.comparison.proofs.compare_reals.Goals as goal
 
 pub returns-in-Equal : goal.returns-in-Equal

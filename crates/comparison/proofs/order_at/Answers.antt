@@ -1,7 +1,6 @@
 -- `comparison::order_at` meets its contract. Assumes nothing.
 use mathlib.Core.Path.{ap, ◌∙◌}
 use Rattle.text.specs.Strings.{string_order}
-use borrow.Author.Rules.{rules}
 use Rattle.comparison.proofs.order_at.Goals as goal
 
 pub returns : goal.returns

@@ -1,5 +1,4 @@
 -- `comparison::order_holds` meets its contract. Assumes nothing.
-use borrow.Author.Rules.{rules}
 use Rattle.comparison.proofs.order_holds.Goals as goal
 
 pub returns-in-Equal : goal.returns-in-Equal

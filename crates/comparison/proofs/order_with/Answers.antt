@@ -1,5 +1,4 @@
 -- `comparison::order_with` meets its contract. Assumes nothing.
-use borrow.Author.Rules.{rules}
 use Rattle.comparison.proofs.order_with.Goals as goal
 
 pub returns-then-side : goal.returns-then-side

@@ -4,7 +4,6 @@ use mathlib.Core.List.{List}
 use Prim.Native.Nat.{ℕ}
 use Rattle.text.specs.Strings.{string_order}
 use Rattle.values.specs.Values.{bytes_at}
-use borrow.Author.Rules.{rules}
 use Rattle.comparison.proofs.strings_order.Goals as goal
 
 pub returns-then-side : goal.returns-then-side

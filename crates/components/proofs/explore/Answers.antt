@@ -2,7 +2,6 @@ use mathlib.Core.Path.{refl, sym, ◌∙◌}
 use mathlib.Core.Logic.{inl}
 use Rattle.components.proofs.Loops.{explore_cross, explore_tie, explore_enter}
 use Rattle.marks.proofs.Slices.{flagged_by}
-use borrow.Author.Rules.{rules}
 use Rattle.components.proofs.explore.Goals as goal
 
 pub returns-then-h-eq0 : goal.returns-then-h-eq0

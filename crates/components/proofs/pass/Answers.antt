@@ -1,5 +1,4 @@
 use Rattle.marks.proofs.Slices.{flagged_yes, flagged_no}
-use borrow.Author.Rules.{rules}
 use Rattle.components.proofs.pass.Goals as goal
 
 pub returns-then-closes : goal.returns-then-closes

@@ -1,6 +1,5 @@
 use mathlib.Core.Path.{refl, sym, ◌∙◌}
 use Rattle.components.proofs.Loops.{seek_skip, seek_enter}
-use borrow.Author.Rules.{rules}
 use Rattle.components.proofs.seek.Goals as goal
 
 pub returns-then-read-eq1 : goal.returns-then-read-eq1

@@ -6,7 +6,6 @@ use Rattle.leaves.proofs.Laws.{fewer_left}
 use Rattle.syntax.specs.Token.{symbol}
 use Rattle.syntax.specs.declared.Symbol.TheVariants.{Assign}
 use Rattle.definition_reader.proofs.Laws.{definition_twice, definition_many, definition_assign, definition_refused, definition_done}
-use borrow.Author.Rules.{rules}
 use Rattle.definition_reader.proofs.read_definition.Goals as goal
 
 pub returns-then-defined : goal.returns-then-defined

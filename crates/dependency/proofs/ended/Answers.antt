@@ -1,7 +1,6 @@
 use mathlib.Core.Path.{sym, ap}
 use Rattle.graph.specs.declared.Place.{Place}
 use Rattle.dependency.specs.Inner.Asked.{ended_at}
-use borrow.Author.Rules.{rules}
 use Rattle.dependency.proofs.ended.Goals as goal
 
 pub returns-in-Between : goal.returns-in-Between

@@ -1,9 +1,7 @@
 use mathlib.Core.Path.{refl}
-use Prim.Native.Nat.{◌-◌, ◌*◌}
 use native.Mathlib.Omega.{arith}
-use Rattle.links.specs.Pair.{pair_graph}
 use Rattle.links.specs.Laws.Numbering.{nodes_fit}
-use Rattle.dependency.proofs.Turns.{Turn, turn_first, turn_end, turn_fits, turn_small, turn_count, turn_next}
+use Rattle.dependency.proofs.Turns.{turn_first, turn_end, turn_fits, turn_small, turn_count, turn_next}
 use borrow.Author.Rules.{rules}
 use Rattle.dependency.proofs.run.Goals as goal
 

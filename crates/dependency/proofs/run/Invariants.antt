@@ -1,10 +1,6 @@
-use mathlib.Core.Path.{refl}
 use Prim.Native.Nat.{◌-◌, ◌*◌}
-use native.Mathlib.Omega.{arith}
 use Rattle.links.specs.Pair.{pair_graph}
-use Rattle.links.specs.Laws.Numbering.{nodes_fit}
-use Rattle.dependency.proofs.Turns.{Turn, turn_first, turn_end, turn_fits, turn_small, turn_count, turn_next}
-use borrow.Author.Rules.{rules}
+use Rattle.dependency.proofs.Turns.{Turn}
 use Rattle.dependency.proofs.run.Given as goal
 
 abbrev pub invariant-loop-p : goal.invariant-loop-p

@@ -2,7 +2,6 @@ use mathlib.Core.Path.{refl, sym, ◌∙◌}
 use native.Mathlib.Omega.{arith}
 use lib.Seq.{length-take-le}
 use Rattle.links.specs.Laws.Roots.{roots_listed}
-use borrow.Author.Rules.{rules}
 use Rattle.dependency.proofs.traverse.Goals as goal
 
 pub slice_bounds-roots-end : goal.slice_bounds-roots-end

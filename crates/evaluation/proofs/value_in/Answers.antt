@@ -1,6 +1,5 @@
 use mathlib.Core.Path.{sym, ap, ◌∙◌}
 use Rattle.evaluation.specs.Evaluation.{seen}
-use borrow.Author.Rules.{rules}
 use Rattle.evaluation.proofs.value_in.Goals as goal
 
 pub returns-in-Blank : goal.returns-in-Blank

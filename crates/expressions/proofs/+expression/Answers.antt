@@ -1,7 +1,5 @@
-use borrow.Author.Rules.{rules}
 use native.Mathlib.Omega.{arith}
 use mathlib.Core.Path.{◌≡◌}
-use Prim.Native.Nat.{◌+◌, ◌-◌, ◌*◌}
 use lib.ListN.{length}
 use Rattle.syntax.specs.Token.{symbol, operator}
 use Rattle.syntax.specs.Grammar.{unary_token}
@@ -10,7 +8,6 @@ use Rattle.leaves.specs.Inner.Marks.{mark, memory}
 use Rattle.expressions.proofs.Words.{more}
 use Rattle.leaves.proofs.Laws.{fewer_left}
 use Rattle.expressions.proofs.Laws.{conditional_refused, conditional_done, binary_unary, binary_refused, binary_done, rest_stop, rest_full, rest_refused, rest_more, arms_stop, arms_deep, arms_full, arms_first, arms_colon, arms_second, arms_done, unary_primary, unary_deep, unary_full, unary_refused, unary_done, primary_leaf, primary_no, primary_deep, primary_refused, primary_unclosed, primary_done, within_from}
-use Prim.Native.Nat.{ℕ, ◌<◌}
 use Rattle.expressions.proofs.+expression.Goals as goal
 
 pub read_arms-symbol_at-requires : goal.read_arms-symbol_at-requires

@@ -2,7 +2,6 @@
 use mathlib.Core.Path.{◌∙◌, sym, ap}
 use Rattle.holders.specs.Holders.{holder_name}
 use Rattle.holders.proofs.Holders.{holder_inside}
-use borrow.Author.Rules.{rules}
 use Rattle.holders.proofs.definition_name.Goals as goal
 
 pub offset-requires : goal.offset-requires

@@ -1,8 +1,8 @@
 -- `holders::definition_of` meets its contract. Assumes nothing.
 use native.Mathlib.Omega.{arith}
 use mathlib.Core.Path.{sym, ◌∙◌, subst}
-use Prim.Native.Nat.{ℕ, ◌-◌, ◌≤◌, ◌<◌}
-use Rattle.holders.proofs.Holders.{too_short, Searched, start, no_name, found, next, all_passed, long_enough}
+use Prim.Native.Nat.{ℕ, ◌≤◌, ◌<◌}
+use Rattle.holders.proofs.Holders.{too_short, start, no_name, found, next, all_passed, long_enough}
 use Rattle.holders.proofs.definition_of.Goals as goal
 
 pub returns-then-words-lt-WORDS : goal.returns-then-words-lt-WORDS

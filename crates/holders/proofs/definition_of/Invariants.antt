@@ -1,7 +1,5 @@
-use native.Mathlib.Omega.{arith}
-use mathlib.Core.Path.{sym, ◌∙◌, subst}
-use Prim.Native.Nat.{ℕ, ◌-◌, ◌≤◌, ◌<◌}
-use Rattle.holders.proofs.Holders.{too_short, Searched, start, no_name, found, next, all_passed, long_enough}
+use Prim.Native.Nat.{◌-◌}
+use Rattle.holders.proofs.Holders.{Searched}
 use Rattle.holders.proofs.definition_of.Given as goal
 
 abbrev pub invariant-loop-j : goal.invariant-loop-j

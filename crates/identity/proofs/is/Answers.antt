@@ -1,7 +1,6 @@
 -- `identity::is` meets its contract. Assumes nothing.
 use mathlib.Core.Path.{ap}
 use Rattle.values.specs.declared.Value.TheVariants.{Boolean}
-use borrow.Author.Rules.{rules}
 use Rattle.identity.proofs.is.Goals as goal
 
 pub returns : goal.returns

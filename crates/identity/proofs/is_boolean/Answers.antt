@@ -1,7 +1,6 @@
 -- `identity::is_boolean` meets its contract. Assumes nothing.
 use mathlib.Core.Path.{sym, ap}
 use Rattle.identity.specs.Identity.{same_boolean}
-use borrow.Author.Rules.{rules}
 use Rattle.identity.proofs.is_boolean.Goals as goal
 
 pub returns-in-Boolean : goal.returns-in-Boolean

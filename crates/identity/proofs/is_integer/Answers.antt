@@ -1,7 +1,6 @@
 -- `identity::is_integer` meets its contract. Assumes nothing.
 use mathlib.Core.Path.{sym, ap}
 use Rattle.identity.specs.Identity.{same_integer}
-use borrow.Author.Rules.{rules}
 use Rattle.identity.proofs.is_integer.Goals as goal
 
 pub returns-in-Integer : goal.returns-in-Integer

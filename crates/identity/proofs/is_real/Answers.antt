@@ -1,7 +1,6 @@
 -- `identity::is_real` meets its contract. Assumes nothing.
 use mathlib.Core.Path.{sym, ap}
 use Rattle.identity.specs.Identity.{same_real}
-use borrow.Author.Rules.{rules}
 use Rattle.identity.proofs.is_real.Goals as goal
 
 pub returns-in-Real : goal.returns-in-Real

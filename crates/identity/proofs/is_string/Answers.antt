@@ -1,5 +1,4 @@
 -- `identity::is_string` meets its contract. Assumes nothing.
-use borrow.Author.Rules.{rules}
 use Rattle.identity.proofs.is_string.Goals as goal
 
 pub returns-then-side : goal.returns-then-side

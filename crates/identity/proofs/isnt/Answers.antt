@@ -2,7 +2,6 @@
 use mathlib.Core.Path.{ap}
 use mathlib.Core.Bool.{Bool, not}
 use Rattle.values.specs.declared.Value.TheVariants.{Boolean}
-use borrow.Author.Rules.{rules}
 use Rattle.identity.proofs.isnt.Goals as goal
 
 pub returns : goal.returns

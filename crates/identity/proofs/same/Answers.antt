@@ -3,7 +3,6 @@ use mathlib.Core.Path.{ap, ◌∙◌}
 use mathlib.Core.List.{List}
 use Prim.Native.Nat.{ℕ}
 use Rattle.identity.specs.Identity.{same_string}
-use borrow.Author.Rules.{rules}
 use Rattle.identity.proofs.same.Goals as goal
 
 pub returns-then-side : goal.returns-then-side

@@ -1,5 +1,4 @@
 -- `identity::same_at` meets its contract. Assumes nothing.
-use borrow.Author.Rules.{rules}
 use Rattle.identity.proofs.same_at.Goals as goal
 
 pub returns : goal.returns

@@ -1,5 +1,4 @@
 -- `inspection::expression` meets its contract. Assumes nothing.
-use borrow.Author.Rules.{rules}
 use mathlib.Core.Path.{sym}
 use lib.Seq.{length-take-le}
 use Rattle.printer.proofs.Ads.{small_words, small_bytes, prints_front}

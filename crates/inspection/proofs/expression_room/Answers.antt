@@ -1,5 +1,4 @@
 -- `inspection::expression_room` meets its contract. Assumes nothing.
-use borrow.Author.Rules.{rules}
 use Rattle.printer.proofs.Ads.{print_malformed}
 use Rattle.inspection.specs.Inspection.{node_text}
 use Rattle.inspection.proofs.Ways.{no_node, node_fits, too_long, longer, put_node}

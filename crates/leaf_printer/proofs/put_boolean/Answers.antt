@@ -2,7 +2,6 @@ use Rattle.syntax.specs.Print.{literal_text}
 use Rattle.text.specs.Bytes.{bytes}
 use borrow.Author.Tests.{ne_eqb}
 use native.Mathlib.Omega.{arith}
-use borrow.Author.Rules.{rules}
 use Rattle.leaf_printer.proofs.put_boolean.Goals as goal
 
 pub put-requires : goal.put-requires

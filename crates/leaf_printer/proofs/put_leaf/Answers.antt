@@ -1,5 +1,5 @@
 use mathlib.Core.Path.{sym, ◌∙◌, ap}
-use mathlib.Core.List.{List, ◌++◌}
+use mathlib.Core.List.{List}
 use Prim.Native.Nat.{ℕ}
 use lib.ListN.{length, length-append}
 use Rattle.syntax.specs.Print.{literal_text}
@@ -9,7 +9,6 @@ use Rattle.leaf_printer.proofs.Leaves.{near_as, text_1, text_2, text_3, text_4, 
 use Rattle.syntax.specs.Tree.{string}
 use Rattle.ad.specs.Stored.{bytes_at}
 use native.Mathlib.Omega.{arith}
-use borrow.Author.Rules.{rules}
 use Rattle.leaf_printer.proofs.put_leaf.Goals as goal
 
 pub put-requires : goal.put-requires

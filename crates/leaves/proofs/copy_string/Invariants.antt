@@ -1,13 +1,10 @@
-use borrow.Author.Rules.{rules}
-use native.Mathlib.Omega.{arith}
-use mathlib.Core.Path.{◌≡◌, refl, sym, ◌∙◌, ap}
+use mathlib.Core.Path.{◌≡◌}
 use Prim.Native.Nat.{◌+◌, ◌-◌, ◌≤◌}
-use lib.ListN.{length, drop, length-set}
+use lib.ListN.{length, drop}
 use lib.Seq.{sets}
 use Rattle.syntax.specs.Token.{body_of}
 use Rattle.tokens.specs.Inner.Meaning.{bytes_of}
 use Rattle.leaves.specs.Inner.Marks.{StringFrom}
-use Rattle.leaves.proofs.Laws.{step_next, step_closed, step_broken, step_none, store_byte, shorter}
 use Rattle.leaves.proofs.copy_string.Given as goal
 
 abbrev pub invariant-loop-j : goal.invariant-loop-j

@@ -3,7 +3,6 @@ use mathlib.Core.Path.{refl, sym, ◌∙◌}
 use Rattle.leaves.specs.Inner.Marks.{mark, memory}
 use Rattle.syntax.specs.declared.Symbol.TheVariants.{OpenParenthesis, Other}
 use Rattle.leaves.proofs.Laws.{own_within, own_exact, string_within, string_exact, constant_within, constant_exact, leaf_end, leaf_bad, leaf_operator, leaf_symbol, leaf_open, leaf_other, leaf_further, symbol_is, stands_of, string_from, fewer_left}
-use borrow.Author.Rules.{rules}
 use Rattle.leaves.proofs.leaf_at.Goals as goal
 
 pub name_leaf-requires : goal.name_leaf-requires

@@ -1,9 +1,7 @@
 use native.Mathlib.Omega.{arith}
 use mathlib.Core.Path.{refl, sym, ap}
-use Prim.Native.Nat.{◌+◌}
 use lib.Seq.{length-slice, slice}
 use Rattle.leaves.proofs.Laws.{text_stored}
-use borrow.Author.Rules.{rules}
 use Rattle.leaves.proofs.name_leaf.Goals as goal
 
 pub returns : goal.returns

@@ -1,7 +1,6 @@
 use native.Mathlib.Omega.{arith}
 use Rattle.leaves.specs.Inner.Marks.{mark, memory}
 use Rattle.leaves.proofs.Laws.{other_full, other_no_point, other_no_name, other_exact, other_within}
-use borrow.Author.Rules.{rules}
 use Rattle.leaves.proofs.other_leaf.Goals as goal
 
 pub returns-then-n-begun-ge-NODES : goal.returns-then-n-begun-ge-NODES

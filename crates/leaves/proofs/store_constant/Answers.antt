@@ -1,5 +1,4 @@
 use Rattle.ad.specs.Layout.{literal_node}
-use borrow.Author.Rules.{rules}
 use Rattle.leaves.proofs.store_constant.Goals as goal
 
 pub returns-in-Undefined : goal.returns-in-Undefined

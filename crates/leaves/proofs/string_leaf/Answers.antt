@@ -1,9 +1,7 @@
 use native.Mathlib.Omega.{arith}
 use mathlib.Core.Path.{refl, sym, ap}
-use Prim.Native.Nat.{◌+◌}
 use Rattle.tokens.specs.Inner.Meaning.{string_at}
 use Rattle.leaves.proofs.Laws.{text_stored, string_size}
-use borrow.Author.Rules.{rules}
 use Rattle.leaves.proofs.string_leaf.Goals as goal
 
 pub returns : goal.returns

@@ -1,5 +1,5 @@
 use mathlib.Core.Path.{refl}
-use Prim.Native.Nat.{ℕ, ◌+◌, ◌<◌}
+use Prim.Native.Nat.{◌+◌}
 use Prim.Native.Nat.{◌/◌, ◌%◌}
 use Prim.Native.Char.{code}
 use mathlib.Core.List.{[], ◌∷◌}
@@ -7,7 +7,6 @@ use lib.ListN.{length-append}
 use Rattle.syntax.specs.Print.{decimal}
 use Rattle.lexemes.specs.Laws.Digits.{decimal_one, decimal_more}
 use native.Mathlib.Omega.{arith}
-use Prim.Native.Nat.{ℕ, ◌<◌}
 use Rattle.lexemes.proofs.+decimal_length.Goals as goal
 
 pub returns-then-v-lt10 : goal.returns-then-v-lt10

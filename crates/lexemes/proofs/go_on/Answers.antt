@@ -1,10 +1,6 @@
-use mathlib.Core.Path.{◌≡◌, refl, sym, ◌∙◌}
-use Prim.Native.Nat.{◌-◌, ◌≤◌}
+use mathlib.Core.Path.{refl, sym, ◌∙◌}
 use Rattle.text.specs.Bytes.{continues_name}
-use lib.ListN.{length, drop}
-use Rattle.syntax.specs.Inner.Lexeme.{every}
 use Rattle.lexemes.proofs.Laws.{every_more, every_stop, every_end}
-use borrow.Author.Rules.{rules}
 use native.Mathlib.Omega.{arith}
 use Rattle.lexemes.proofs.go_on.Goals as goal
 

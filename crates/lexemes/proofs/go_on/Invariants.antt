@@ -1,11 +1,8 @@
-use mathlib.Core.Path.{◌≡◌, refl, sym, ◌∙◌}
+use mathlib.Core.Path.{◌≡◌}
 use Prim.Native.Nat.{◌-◌, ◌≤◌}
 use Rattle.text.specs.Bytes.{continues_name}
 use lib.ListN.{length, drop}
 use Rattle.syntax.specs.Inner.Lexeme.{every}
-use Rattle.lexemes.proofs.Laws.{every_more, every_stop, every_end}
-use borrow.Author.Rules.{rules}
-use native.Mathlib.Omega.{arith}
 use Rattle.lexemes.proofs.go_on.Given as goal
 
 abbrev pub invariant-loop-i : goal.invariant-loop-i

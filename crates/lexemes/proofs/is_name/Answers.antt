@@ -3,7 +3,6 @@ use Rattle.lexemes.proofs.Laws.{name_empty, name_parts, ands}
 use mathlib.Core.Bool.{Bool, not, ◌&&◌}
 use lib.Dec.{leb}
 use lib.ListN.{length}
-use borrow.Author.Rules.{rules}
 use Rattle.lexemes.proofs.is_name.Goals as goal
 
 pub returns-then-name-eq0 : goal.returns-then-name-eq0

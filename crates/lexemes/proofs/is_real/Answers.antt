@@ -1,5 +1,4 @@
 use Rattle.syntax.specs.Inner.Lexeme.{is_real}
-use borrow.Author.Rules.{rules}
 use Rattle.lexemes.proofs.is_real.Goals as goal
 
 pub returns : goal.returns

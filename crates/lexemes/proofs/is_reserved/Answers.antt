@@ -1,7 +1,6 @@
 use mathlib.Core.Path.{sym, ◌∙◌}
 use Rattle.lexemes.proofs.Laws.{reserved_words, ors}
 use Rattle.text.specs.Bytes.{bytes}
-use borrow.Author.Rules.{rules}
 use Rattle.lexemes.proofs.is_reserved.Goals as goal
 
 pub returns : goal.returns

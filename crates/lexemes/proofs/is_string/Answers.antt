@@ -1,5 +1,4 @@
 use Rattle.syntax.specs.Inner.Lexeme.{is_string}
-use borrow.Author.Rules.{rules}
 use Rattle.lexemes.proofs.is_string.Goals as goal
 
 pub returns : goal.returns

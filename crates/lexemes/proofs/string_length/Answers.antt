@@ -1,9 +1,6 @@
-use mathlib.Core.Path.{◌≡◌}
-use Prim.Native.Nat.{◌+◌, ◌-◌, ◌*◌, ◌≤◌}
-use lib.ListN.{length, drop, length-append}
-use Rattle.syntax.specs.Print.{escaped_all, literal_text}
+use lib.ListN.{length-append}
+use Rattle.syntax.specs.Print.{literal_text}
 use Rattle.lexemes.proofs.Laws.{escaped_more, escaped_end}
-use borrow.Author.Rules.{rules}
 use native.Mathlib.Omega.{arith}
 use Rattle.lexemes.proofs.string_length.Goals as goal
 

@@ -1,10 +1,7 @@
 use mathlib.Core.Path.{◌≡◌}
 use Prim.Native.Nat.{◌+◌, ◌-◌, ◌*◌, ◌≤◌}
-use lib.ListN.{length, drop, length-append}
-use Rattle.syntax.specs.Print.{escaped_all, literal_text}
-use Rattle.lexemes.proofs.Laws.{escaped_more, escaped_end}
-use borrow.Author.Rules.{rules}
-use native.Mathlib.Omega.{arith}
+use lib.ListN.{length, drop}
+use Rattle.syntax.specs.Print.{escaped_all}
 use Rattle.lexemes.proofs.string_length.Given as goal
 
 abbrev pub invariant-loop-i : goal.invariant-loop-i

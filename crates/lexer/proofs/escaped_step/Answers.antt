@@ -1,7 +1,6 @@
 use native.Mathlib.Omega.{arith}
 use Rattle.lexer.proofs.Laws.{escaped_none, escaped_wrong, escaped_byte}
 use mathlib.Core.Path.{sym, ◌∙◌}
-use borrow.Author.Rules.{rules}
 use Rattle.lexer.proofs.escaped_step.Goals as goal
 
 pub returns-then-text-i : goal.returns-then-text-i

@@ -1,9 +1,5 @@
-use borrow.Author.Rules.{rules}
 use native.Mathlib.Omega.{arith}
-use Prim.Native.Nat.{◌≤◌, ◌-◌}
-use mathlib.Core.Path.{◌≡◌, refl, sym, ◌∙◌}
-use lib.ListN.{length}
-use Rattle.tokens.specs.Inner.Meaning.{tokens_at}
+use mathlib.Core.Path.{refl, sym, ◌∙◌}
 use Rattle.lexer.proofs.Laws.{skip_step}
 use Rattle.lexer.proofs.skip.Goals as goal
 

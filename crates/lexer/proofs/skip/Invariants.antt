@@ -1,10 +1,7 @@
-use borrow.Author.Rules.{rules}
-use native.Mathlib.Omega.{arith}
 use Prim.Native.Nat.{◌≤◌, ◌-◌}
-use mathlib.Core.Path.{◌≡◌, refl, sym, ◌∙◌}
+use mathlib.Core.Path.{◌≡◌}
 use lib.ListN.{length}
 use Rattle.tokens.specs.Inner.Meaning.{tokens_at}
-use Rattle.lexer.proofs.Laws.{skip_step}
 use Rattle.lexer.proofs.skip.Given as goal
 
 abbrev pub invariant-loop-i : goal.invariant-loop-i

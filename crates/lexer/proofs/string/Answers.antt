@@ -1,6 +1,5 @@
 use native.Mathlib.Omega.{arith}
 use Rattle.lexer.proofs.Laws.{string_broken, string_long, string_token, string_length, string_body}
-use borrow.Author.Rules.{rules}
 use Rattle.lexer.proofs.string.Goals as goal
 
 pub returns-in-Broken : goal.returns-in-Broken

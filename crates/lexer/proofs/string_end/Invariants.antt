@@ -1,8 +1,6 @@
-use borrow.Author.Rules.{rules}
-use native.Mathlib.Omega.{arith}
 use Prim.Native.Nat.{◌≤◌, ◌+◌, ◌-◌}
 use lib.ListN.{length}
-use Rattle.lexer.proofs.Laws.{Gone, gone_start, gone_byte, gone_close, gone_broken, string_none}
+use Rattle.lexer.proofs.Laws.{Gone}
 use Rattle.lexer.proofs.string_end.Given as goal
 
 abbrev pub invariant-loop-i : goal.invariant-loop-i

@@ -1,6 +1,5 @@
 use native.Mathlib.Omega.{arith}
 use Rattle.lexer.proofs.Laws.{string_none, string_close, string_low, string_high, string_byte}
-use borrow.Author.Rules.{rules}
 use Rattle.lexer.proofs.string_step.Goals as goal
 
 pub returns-then-text-i : goal.returns-then-text-i

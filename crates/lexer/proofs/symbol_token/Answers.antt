@@ -2,7 +2,6 @@ use native.Mathlib.Omega.{arith}
 use mathlib.Core.Path.{sym, ◌∙◌, ap}
 use Rattle.signs.specs.Inner.Meaning.{sign_front}
 use Rattle.lexer.proofs.Laws.{symbol_placed, symbol_bad}
-use borrow.Author.Rules.{rules}
 use Rattle.lexer.proofs.symbol_token.Goals as goal
 
 pub overflow_add-result : goal.overflow_add-result

@@ -1,6 +1,5 @@
 use mathlib.Core.Path.{◌∙◌}
 use Rattle.lexer.proofs.Laws.{span_from}
-use borrow.Author.Rules.{rules}
 use Rattle.lexer.proofs.token_at.Goals as goal
 
 pub returns : goal.returns

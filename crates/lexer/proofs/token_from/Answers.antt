@@ -1,7 +1,6 @@
 use mathlib.Core.Path.{sym, ◌∙◌}
 use Rattle.syntax.proofs.Laws.FrontTokens.{starts_continues}
 use Rattle.lexer.proofs.Laws.{scan_end, scan_name, scan_number, scan_string, scan_symbol}
-use borrow.Author.Rules.{rules}
 use Rattle.lexer.proofs.token_from.Goals as goal
 
 pub returns-then-text-p : goal.returns-then-text-p

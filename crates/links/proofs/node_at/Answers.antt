@@ -1,5 +1,4 @@
 use Rattle.links.specs.Laws.Numbering.{below_yes, below_no}
-use borrow.Author.Rules.{rules}
 use Rattle.links.proofs.node_at.Goals as goal
 
 pub returns-then-i-n : goal.returns-then-i-n

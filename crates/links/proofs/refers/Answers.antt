@@ -1,5 +1,4 @@
 use Rattle.links.specs.Laws.Numbering.{ref_test}
-use borrow.Author.Rules.{rules}
 use Rattle.links.proofs.refers.Goals as goal
 
 pub kind_of-kind-requires : goal.kind_of-kind-requires

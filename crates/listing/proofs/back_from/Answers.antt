@@ -1,5 +1,4 @@
 use Rattle.listing.proofs.Rule.{back_none, back_some}
-use borrow.Author.Rules.{rules}
 use Rattle.listing.proofs.back_from.Goals as goal
 
 pub returns-then-p-eq0 : goal.returns-then-p-eq0

@@ -1,6 +1,5 @@
 use mathlib.Core.Path.{refl, sym, ◌∙◌}
 use Rattle.listing.proofs.Rule.{follow_pass, follow_enter}
-use borrow.Author.Rules.{rules}
 use Rattle.listing.proofs.follow.Goals as goal
 
 pub returns-then-read-eq2 : goal.returns-then-read-eq2

@@ -1,5 +1,4 @@
 use Rattle.listing.proofs.Rule.{leave_lists, grows_one}
-use borrow.Author.Rules.{rules}
 use Rattle.listing.proofs.leave.Goals as goal
 
 pub returns : goal.returns

@@ -1,6 +1,5 @@
 use mathlib.Core.Path.{refl}
 use Rattle.listing.proofs.Rule.{resolve_more, resolve_last}
-use borrow.Author.Rules.{rules}
 use Rattle.listing.proofs.resolve.Goals as goal
 
 pub returns-then-j-n : goal.returns-then-j-n

@@ -1,7 +1,6 @@
 -- `logic::and` meets its contract. Assumes nothing.
 use mathlib.Core.Path.{sym, ap₂, ◌∙◌}
 use Rattle.logic.specs.Logic.{and_table}
-use borrow.Author.Rules.{rules}
 use Rattle.logic.proofs.and.Goals as goal
 
 pub returns-in-F : goal.returns-in-F

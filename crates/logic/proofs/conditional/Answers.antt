@@ -2,7 +2,6 @@
 use mathlib.Core.Path.{ap, ◌∙◌}
 use Rattle.values.specs.declared.Value.TheVariants.{Undefined, Error}
 use Rattle.logic.specs.Logic.{row}
-use borrow.Author.Rules.{rules}
 use Rattle.logic.proofs.conditional.Goals as goal
 
 pub returns : goal.returns

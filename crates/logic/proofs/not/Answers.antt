@@ -3,7 +3,6 @@ use mathlib.Core.Path.{ap, ◌∙◌}
 use mathlib.Core.Bool.{true, false}
 use Rattle.values.specs.declared.Value.TheVariants.{Undefined, Error, Boolean}
 use Rattle.logic.specs.Logic.{row}
-use borrow.Author.Rules.{rules}
 use Rattle.logic.proofs.not.Goals as goal
 
 pub returns : goal.returns

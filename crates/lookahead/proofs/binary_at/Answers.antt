@@ -1,6 +1,5 @@
 use mathlib.Core.Path.{sym, ◌∙◌}
 use Rattle.lookahead.proofs.Laws.{binary_absent, binary_here}
-use borrow.Author.Rules.{rules}
 use Rattle.lookahead.proofs.binary_at.Goals as goal
 
 pub returns-in-End : goal.returns-in-End

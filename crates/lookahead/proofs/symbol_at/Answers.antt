@@ -1,6 +1,5 @@
 use mathlib.Core.Path.{sym, ◌∙◌}
 use Rattle.lookahead.proofs.Laws.{symbol_absent, symbol_here}
-use borrow.Author.Rules.{rules}
 use Rattle.lookahead.proofs.symbol_at.Goals as goal
 
 pub returns-in-End : goal.returns-in-End

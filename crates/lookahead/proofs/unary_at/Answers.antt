@@ -1,7 +1,6 @@
 use mathlib.Core.Path.{sym, ◌∙◌}
 use Rattle.syntax.specs.declared.Unary.TheVariants.{Not, Plus, Minus}
 use Rattle.lookahead.proofs.Laws.{unary_absent, unary_operator, unary_sign}
-use borrow.Author.Rules.{rules}
 use Rattle.lookahead.proofs.unary_at.Goals as goal
 
 pub returns-then-code-eq11 : goal.returns-then-code-eq11

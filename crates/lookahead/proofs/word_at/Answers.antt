@@ -1,5 +1,4 @@
 use Rattle.lookahead.proofs.Laws.{word_absent, word_here}
-use borrow.Author.Rules.{rules}
 use Rattle.lookahead.proofs.word_at.Goals as goal
 
 pub returns-in-End : goal.returns-in-End

@@ -1,6 +1,5 @@
-use Prim.Native.Nat.{◌-◌}
 use native.Mathlib.Omega.{arith}
-use Rattle.lookup.proofs.Reading.{Filling, filling_first, filling_next, filling_end, name_small}
+use Rattle.lookup.proofs.Reading.{filling_first, filling_next, filling_end, name_small}
 use borrow.Author.Rules.{rules}
 use Rattle.lookup.proofs.fill.Goals as goal
 

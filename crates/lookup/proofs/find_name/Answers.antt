@@ -1,8 +1,8 @@
-use Prim.Native.Nat.{ℕ, ◌-◌}
+use Prim.Native.Nat.{ℕ}
 use mathlib.Core.Path.{◌∙◌, ap}
 use native.Mathlib.Omega.{arith}
 use lib.ListN.{get_or}
-use Rattle.lookup.proofs.Reading.{Sought, sought_first, name_small, sought_next, sought_found, sought_none, root_small}
+use Rattle.lookup.proofs.Reading.{sought_first, name_small, sought_next, sought_found, sought_none, root_small}
 use borrow.Author.Rules.{rules}
 use Rattle.lookup.proofs.find_name.Goals as goal
 

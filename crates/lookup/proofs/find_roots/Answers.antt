@@ -1,5 +1,4 @@
 use Rattle.text.specs.Bytes.{bytes}
-use borrow.Author.Rules.{rules}
 use Rattle.lookup.proofs.find_roots.Goals as goal
 
 pub find_name-i-requires : goal.find_name-i-requires

@@ -1,7 +1,6 @@
 use native.Mathlib.Omega.{arith}
 use Rattle.links.specs.Laws.Numbering.{definitions_fit}
 use Rattle.lookup.proofs.Reading.{prints_both}
-use borrow.Author.Rules.{rules}
 use Rattle.lookup.proofs.fingerprints.Goals as goal
 
 pub fill-requires : goal.fill-requires

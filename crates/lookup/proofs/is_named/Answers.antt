@@ -1,5 +1,4 @@
 use Rattle.lookup.proofs.Reading.{named_not}
-use borrow.Author.Rules.{rules}
 use Rattle.lookup.proofs.is_named.Goals as goal
 
 pub bounds-prints-at : goal.bounds-prints-at

@@ -1,6 +1,5 @@
 use native.Mathlib.Omega.{arith}
 use Rattle.links.specs.Laws.Roots.{roots_four}
-use borrow.Author.Rules.{rules}
 use Rattle.lookup.proofs.list_roots.Goals as goal
 
 pub returns : goal.returns

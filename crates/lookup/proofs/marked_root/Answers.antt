@@ -1,5 +1,4 @@
 use Rattle.lookup.proofs.Reading.{root_number, root_plain}
-use borrow.Author.Rules.{rules}
 use Rattle.lookup.proofs.marked_root.Goals as goal
 
 pub returns-then-second : goal.returns-then-second

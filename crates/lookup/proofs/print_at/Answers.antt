@@ -1,6 +1,5 @@
 use native.Mathlib.Omega.{arith}
 use Rattle.lookup.proofs.Reading.{print_second, print_first}
-use borrow.Author.Rules.{rules}
 use Rattle.lookup.proofs.print_at.Goals as goal
 
 pub returns-then-second : goal.returns-then-second

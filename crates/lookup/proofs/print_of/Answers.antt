@@ -1,5 +1,4 @@
 use Rattle.lookup.proofs.Reading.{named_part}
-use borrow.Author.Rules.{rules}
 use Rattle.lookup.proofs.print_of.Goals as goal
 
 pub returns : goal.returns

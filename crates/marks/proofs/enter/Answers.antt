@@ -1,6 +1,5 @@
 use mathlib.Core.Path.{refl}
 use Rattle.marks.specs.Inner.Memory.{fill}
-use borrow.Author.Rules.{rules}
 use Rattle.marks.proofs.enter.Goals as goal
 
 pub returns : goal.returns

@@ -3,7 +3,6 @@ use Prim.Native.Nat.{ℕ}
 use mathlib.Core.Path.{refl, ◌∙◌, ap}
 use lib.ListN.{replicate}
 use Rattle.dependency.specs.Laws.Use.{ready_zeros}
-use borrow.Author.Rules.{rules}
 use Rattle.match_memory.proofs.match_formed.Goals as goal
 
 pub match_marked-requires : goal.match_marked-requires

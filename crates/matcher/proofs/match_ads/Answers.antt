@@ -2,7 +2,6 @@ use mathlib.Core.Path.{refl, sym}
 use Rattle.admission.specs.Laws.Refusing.{refusal_told, admission_told}
 use Rattle.admission.specs.Laws.Rooms.{fit, first_words_front, first_bytes_front, second_words_front, second_bytes_front, values_front, list_front}
 use Rattle.matching.specs.Matching.{refused, matches}
-use borrow.Author.Rules.{rules}
 use Rattle.matcher.proofs.match_ads.Goals as goal
 
 pub match_formed-requires : goal.match_formed-requires

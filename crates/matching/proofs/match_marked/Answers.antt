@@ -2,7 +2,6 @@ use native.Mathlib.Omega.{arith}
 use mathlib.Core.Path.{refl}
 use Rattle.matching.specs.declared.Outcome.TheVariants.{Finished}
 use Rattle.matching.proofs.Assembling.{clear_long, at_run, match_of}
-use borrow.Author.Rules.{rules}
 use Rattle.matching.proofs.match_marked.Goals as goal
 
 pub run-steps-requires : goal.run-steps-requires

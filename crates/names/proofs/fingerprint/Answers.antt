@@ -1,6 +1,4 @@
-use Prim.Native.Nat.{◌-◌}
-use lib.ListN.{length}
-use Rattle.names.proofs.Folding.{Folding, folding_first, folding_next, folding_end}
+use Rattle.names.proofs.Folding.{folding_first, folding_next, folding_end}
 use borrow.Author.Rules.{rules}
 use Rattle.names.proofs.fingerprint.Goals as goal
 

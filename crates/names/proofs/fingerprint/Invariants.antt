@@ -1,7 +1,6 @@
 use Prim.Native.Nat.{◌-◌}
 use lib.ListN.{length}
-use Rattle.names.proofs.Folding.{Folding, folding_first, folding_next, folding_end}
-use borrow.Author.Rules.{rules}
+use Rattle.names.proofs.Folding.{Folding}
 use Rattle.names.proofs.fingerprint.Given as goal
 
 abbrev pub invariant-loop-i : goal.invariant-loop-i

@@ -2,7 +2,6 @@ use mathlib.Core.Path.{ap}
 use Prim.Native.Nat.{ℕ, ◌+◌, ◌*◌, ◌%◌}
 use native.Mathlib.Omega.{arith}
 use Rattle.names.specs.Inner.Fingerprint.{mixed}
-use borrow.Author.Rules.{rules}
 use Rattle.names.proofs.mix.Goals as goal
 
 pub returns : goal.returns

@@ -4,7 +4,6 @@ use mathlib.Core.Path.{◌≡◌, sym}
 use mathlib.Core.Bool.{false}
 use lib.Dec.{eqb}
 use borrow.Author.Tests.{ne_eqb}
-use borrow.Author.Rules.{rules}
 use Rattle.node_shapes.proofs.follows.Goals as goal
 
 follows-not : (x i : ℕ) → i ≤ x → false ≡ eqb (x + 1) i

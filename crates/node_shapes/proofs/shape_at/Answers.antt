@@ -1,6 +1,5 @@
 use mathlib.Core.Path.{◌∙◌}
 use Rattle.node_shapes.specs.Inner.Shapes.{shape_of}
-use borrow.Author.Rules.{rules}
 use Rattle.node_shapes.proofs.shape_at.Goals as goal
 
 pub returns : goal.returns

@@ -1,7 +1,6 @@
 use mathlib.Core.Path.{refl, sym, ◌∙◌}
 use Rattle.node_shapes.specs.Inner.Shapes.{shape_of}
 use borrow.Author.Tests.{lt-ltb, le-ltb, eq-eqb, ne_eqb}
-use borrow.Author.Rules.{rules}
 use Rattle.node_shapes.proofs.shape_of.Goals as goal
 
 pub returns-then-s-i : goal.returns-then-s-i

@@ -1,8 +1,6 @@
-use mathlib.Core.Bool.{◌&&◌}
 use lib.Dec.{ltb}
 use mathlib.Core.Path.{◌∙◌, ap}
 use Rattle.lexemes.proofs.Laws.{ands}
-use borrow.Author.Rules.{rules}
 use Rattle.node_shapes.proofs.three_fits.Goals as goal
 
 pub returns : goal.returns

@@ -1,4 +1,3 @@
-use borrow.Author.Rules.{rules}
 use Rattle.node_shapes.proofs.two_fits.Goals as goal
 
 pub returns : goal.returns

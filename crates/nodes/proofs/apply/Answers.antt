@@ -1,7 +1,6 @@
 use mathlib.Core.Path.{sym, ap, ◌∙◌}
 use Rattle.nodes.specs.declared.Node.{Node}
 use Rattle.nodes.specs.Nodes.{applied}
-use borrow.Author.Rules.{rules}
 use Rattle.nodes.proofs.apply.Goals as goal
 
 pub returns-in-Constant : goal.returns-in-Constant

@@ -2,7 +2,6 @@ use mathlib.Core.Path.{ap}
 use lib.Ieee.{Float}
 use borrow.Author.Tests.{ne_eqb}
 use Rattle.values.specs.declared.Value.TheVariants.{Real}
-use borrow.Author.Rules.{rules}
 use Rattle.nodes.proofs.constant_of.Goals as goal
 
 pub returns-in-2 : goal.returns-in-2

@@ -1,4 +1,3 @@
-use borrow.Author.Rules.{rules}
 use Rattle.nodes.proofs.Ways.{refers, of_one, of_two, of_three, of_none}
 use Rattle.nodes.proofs.node_of.Goals as goal
 

@@ -1,5 +1,4 @@
 use Rattle.numerals.proofs.Laws.{fraction_end, fraction_other, fraction_some, fraction_none}
-use borrow.Author.Rules.{rules}
 use Rattle.numerals.proofs.fraction.Goals as goal
 
 pub returns-then-at-end : goal.returns-then-at-end

@@ -1,7 +1,6 @@
 use native.Mathlib.Omega.{arith}
 use Rattle.numerals.proofs.Laws.{number_large, number_integer, number_long, number_real}
 use Rattle.tokens.proofs.Laws.{run_some}
-use borrow.Author.Rules.{rules}
 use Rattle.numerals.proofs.number.Goals as goal
 
 pub returns-then-v-gt2147483647 : goal.returns-then-v-gt2147483647

@@ -1,9 +1,5 @@
-use borrow.Author.Rules.{rules}
 use native.Mathlib.Omega.{arith}
-use Prim.Native.Nat.{◌≤◌, ◌-◌}
-use mathlib.Core.Path.{◌≡◌, refl, ◌∙◌}
-use lib.Seq.{slice}
-use Rattle.numerals.specs.Inner.Meaning.{value_to, largest_read}
+use mathlib.Core.Path.{refl, ◌∙◌}
 use Rattle.numerals.proofs.Laws.{value_step, value_end}
 use Rattle.numerals.proofs.value.Goals as goal
 

@@ -1,10 +1,7 @@
-use borrow.Author.Rules.{rules}
-use native.Mathlib.Omega.{arith}
 use Prim.Native.Nat.{◌≤◌, ◌-◌}
-use mathlib.Core.Path.{◌≡◌, refl, ◌∙◌}
+use mathlib.Core.Path.{◌≡◌}
 use lib.Seq.{slice}
 use Rattle.numerals.specs.Inner.Meaning.{value_to, largest_read}
-use Rattle.numerals.proofs.Laws.{value_step, value_end}
 use Rattle.numerals.proofs.value.Given as goal
 
 abbrev pub invariant-loop-i : goal.invariant-loop-i

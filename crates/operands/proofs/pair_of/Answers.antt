@@ -1,5 +1,4 @@
 -- `operands::pair_of` meets its contract. Assumes nothing.
-use borrow.Author.Rules.{rules}
 use Rattle.operands.proofs.pair_of.Goals as goal
 
 pub returns-in-Integer : goal.returns-in-Integer

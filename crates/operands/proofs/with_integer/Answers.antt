@@ -2,7 +2,6 @@
 use mathlib.Core.Path.{ap}
 use lib.Ieee.{Float}
 use Rattle.operands.specs.declared.Operands.TheVariants.{Reals}
-use borrow.Author.Rules.{rules}
 use Rattle.operands.proofs.with_integer.Goals as goal
 
 pub returns-in-Integer : goal.returns-in-Integer

@@ -1,7 +1,6 @@
 -- `operands::with_real` meets its contract. Assumes nothing.
 use mathlib.Core.Path.{ap}
 use Rattle.operands.specs.declared.Operands.TheVariants.{Reals}
-use borrow.Author.Rules.{rules}
 use Rattle.operands.proofs.with_real.Goals as goal
 
 pub returns-in-Integer : goal.returns-in-Integer

@@ -1,5 +1,4 @@
 -- `operands::with_string` meets its contract. Assumes nothing.
-use borrow.Author.Rules.{rules}
 use Rattle.operands.proofs.with_string.Goals as goal
 
 pub returns-in-String : goal.returns-in-String

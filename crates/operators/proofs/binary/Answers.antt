@@ -1,5 +1,4 @@
 -- `operators::binary` meets its contract. Assumes nothing.
-use borrow.Author.Rules.{rules}
 use Rattle.operators.proofs.binary.Goals as goal
 
 pub returns-in-Or : goal.returns-in-Or

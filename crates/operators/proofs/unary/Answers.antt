@@ -1,5 +1,4 @@
 -- `operators::unary` meets its contract. Assumes nothing.
-use borrow.Author.Rules.{rules}
 use Rattle.operators.proofs.unary.Goals as goal
 
 pub returns-in-Plus : goal.returns-in-Plus

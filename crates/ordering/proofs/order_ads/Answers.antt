@@ -2,7 +2,6 @@ use mathlib.Core.Path.{refl, sym}
 use Rattle.admission.specs.Laws.Refusing.{refusal_told, admission_told}
 use Rattle.admission.specs.Laws.Rooms.{fit, first_words_front, first_bytes_front, second_words_front, second_bytes_front, values_front, list_front}
 use Rattle.ordering.specs.Ordering.{refused, orders}
-use borrow.Author.Rules.{rules}
 use Rattle.ordering.proofs.order_ads.Goals as goal
 
 pub order_formed-requires : goal.order_formed-requires

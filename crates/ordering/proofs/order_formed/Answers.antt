@@ -4,7 +4,6 @@ use mathlib.Core.Path.{refl, ◌∙◌, ap}
 use lib.ListN.{replicate}
 use Rattle.dependency.specs.Laws.Use.{ready_zeros}
 use Rattle.ordering.proofs.Orders.{orders_of}
-use borrow.Author.Rules.{rules}
 use Rattle.ordering.proofs.order_formed.Goals as goal
 
 pub traverse-t-requires : goal.traverse-t-requires

@@ -6,7 +6,6 @@ use native.Mathlib.Omega.{arith}
 use lib.ListN.{length, drop, drop_of_length-le, length-drop}
 use lib.Seq.{drop-length}
 use Rattle.parts.proofs.Parts.{cut_none, cut_all, behind}
-use borrow.Author.Rules.{rules}
 use Rattle.parts.proofs.cut.Goals as goal
 
 pub returns-then-memory-offset : goal.returns-then-memory-offset

@@ -1,7 +1,6 @@
 -- `positions::behind` meets its contract. Assumes nothing.
 use mathlib.Core.Path.{refl}
 use borrow.Author.Tests.{ne_eqb}
-use borrow.Author.Rules.{rules}
 use Rattle.positions.proofs.behind.Goals as goal
 
 pub returns-then-b-eq10 : goal.returns-then-b-eq10

@@ -1,8 +1,6 @@
 -- `positions::locate` meets its contract. Assumes nothing.
 use native.Mathlib.Omega.{arith}
-use borrow.Author.Rules.{rules}
-use Prim.Native.Nat.{◌-◌}
-use Rattle.positions.proofs.Lines.{Reaches, start, more, done}
+use Rattle.positions.proofs.Lines.{start, more, done}
 use Rattle.positions.proofs.locate.Goals as goal
 
 pub loop-i-init : goal.loop-i-init

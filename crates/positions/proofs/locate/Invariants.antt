@@ -1,7 +1,5 @@
-use native.Mathlib.Omega.{arith}
-use borrow.Author.Rules.{rules}
 use Prim.Native.Nat.{◌-◌}
-use Rattle.positions.proofs.Lines.{Reaches, start, more, done}
+use Rattle.positions.proofs.Lines.{Reaches}
 use Rattle.positions.proofs.locate.Given as goal
 
 abbrev pub invariant-loop-i : goal.invariant-loop-i

@@ -2,7 +2,6 @@ use mathlib.Core.Path.{sym}
 use lib.Seq.{length-take-le}
 use Rattle.syntax.specs.Print.{printed_ad}
 use Rattle.printer.proofs.Ads.{small_words, small_bytes, prints_front}
-use borrow.Author.Rules.{rules}
 use Rattle.printer.proofs.print.Goals as goal
 
 pub returns-then-words-lt-WORDS : goal.returns-then-words-lt-WORDS

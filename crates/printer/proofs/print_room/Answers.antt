@@ -1,6 +1,5 @@
 use Rattle.syntax.specs.Print.{printed_ad}
 use Rattle.printer.proofs.Ads.{print_malformed, print_long, print_longer, print_fits, print_text}
-use borrow.Author.Rules.{rules}
 use Rattle.printer.proofs.print_room.Goals as goal
 
 pub returns-then-out-k : goal.returns-then-out-k

@@ -1,7 +1,6 @@
 use mathlib.Core.Path.{refl, sym}
 use lib.Seq.{length-take-le}
 use Rattle.printer.proofs.Ads.{text_back, none_back}
-use borrow.Author.Rules.{rules}
 use Rattle.printer.proofs.text.Goals as goal
 
 pub slice_bounds-result-end : goal.slice_bounds-result-end

@@ -1,6 +1,5 @@
 use mathlib.Core.Path.{◌∙◌}
 use Rattle.reader.proofs.Whole.{into_ad, into_none, cleared}
-use borrow.Author.Rules.{rules}
 use Rattle.reader.proofs.read_into.Goals as goal
 
 pub returns-in-Accepted : goal.returns-in-Accepted

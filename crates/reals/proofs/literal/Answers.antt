@@ -3,7 +3,6 @@ use mathlib.Core.Path.{refl}
 use borrow.Author.Tests.{lt-ltb, le-ltb, le-leb, lt-leb}
 use Prim.Native.Nat.{◌^◌}
 use lib.Ieee
-use borrow.Author.Rules.{rules}
 use Rattle.reals.proofs.literal.Goals as goal
 
 pub returns-then-digits-ge1000000000000000 : goal.returns-then-digits-ge1000000000000000

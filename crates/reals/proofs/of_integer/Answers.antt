@@ -6,7 +6,6 @@ use lib.Ieee.{binary64, of_int, neg}
 use Rattle.integers.specs.Integers.{width}
 use Rattle.integers.proofs.Codes.{low, high}
 use Rattle.reals.proofs.Divide.{neg_whole}
-use borrow.Author.Rules.{rules}
 use Rattle.reals.proofs.of_integer.Goals as goal
 
 pub returns-then-a-lt2147483648 : goal.returns-then-a-lt2147483648

@@ -7,7 +7,6 @@ use lib.IntN.{pos}
 use lib.Dec.{le→leb, lit≤}
 use lib.Ieee.{binary64, of_int, div, in_float}
 use Rattle.reals.proofs.Divide.{whole_quotient}
-use borrow.Author.Rules.{rules}
 use Rattle.reals.proofs.quotient.Goals as goal
 
 exact : (n : ℕ) → n < 15 → 10 ^ n ≤ 2 ^ 53

@@ -1,6 +1,5 @@
 use mathlib.Core.Path.{refl}
 use borrow.Author.Tests.{lt-ltb, le-ltb}
-use borrow.Author.Rules.{rules}
 use Rattle.results.proofs.value_at.Goals as goal
 
 pub returns-then-second : goal.returns-then-second

@@ -1,7 +1,5 @@
 use Prim.Native.Nat.{◌-◌}
-use native.Mathlib.Omega.{arith}
-use borrow.Author.Rules.{rules}
-use Rattle.running.proofs.Loop.{Turn, turn_none, turn_first, turn_long, turn_over, turn_spent, turn_entry, turn_step, turn_next}
+use Rattle.running.proofs.Loop.{Turn}
 use Rattle.running.proofs.run.Given as goal
 
 abbrev pub invariant-loop-n : goal.invariant-loop-n

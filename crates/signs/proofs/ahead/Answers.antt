@@ -2,7 +2,6 @@ use native.Mathlib.Omega.{arith}
 use mathlib.Core.Path.{sym}
 use lib.ListN.{length, get_or-eq_default}
 use Prim.Native.Nat.{◌≤◌, ◌+◌}
-use borrow.Author.Rules.{rules}
 use Rattle.signs.proofs.ahead.Goals as goal
 
 pub returns-else-k-text : goal.returns-else-k-text

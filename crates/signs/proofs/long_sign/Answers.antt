@@ -1,5 +1,4 @@
 use Rattle.signs.proofs.Laws.{long_equals, long_unequal, long_less, long_greater, long_no_equals, long_differ, long_or, long_and, long_none}
-use borrow.Author.Rules.{rules}
 use Rattle.signs.proofs.long_sign.Goals as goal
 
 pub returns-then-b-eq61 : goal.returns-then-b-eq61

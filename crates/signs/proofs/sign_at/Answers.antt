@@ -1,7 +1,6 @@
 use mathlib.Core.Path.{refl, sym, ◌∙◌, ap}
 use Rattle.signs.specs.Inner.Meaning.{sign_front}
 use Rattle.signs.proofs.Laws.{sign_long, sign_short}
-use borrow.Author.Rules.{rules}
 use Rattle.signs.proofs.sign_at.Goals as goal
 
 pub returns-in-Operator : goal.returns-in-Operator

@@ -2,7 +2,6 @@
 use mathlib.Core.Path.{sym, ap, ◌∙◌}
 use lib.Ieee.{binary64, to_bits}
 use Rattle.slots.proofs.Nan.{is_nan_lem, no_nan, nan_bits_lem}
-use borrow.Author.Rules.{rules}
 use Rattle.slots.proofs.bits_of.Goals as goal
 
 pub returns-then-x : goal.returns-then-x

@@ -4,7 +4,6 @@ use Prim.Native.Nat.{◌+◌, ◌*◌, ◌≤◌}
 use native.Mathlib.Omega.{arith}
 use lib.ListN.{length, get_or-eq_default}
 use Rattle.slots.specs.Packed.{slot_of}
-use borrow.Author.Rules.{rules}
 use Rattle.slots.proofs.load.Goals as goal
 
 pub returns-then-i-table : goal.returns-then-i-table

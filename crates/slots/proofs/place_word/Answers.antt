@@ -1,6 +1,5 @@
 -- `slots::place_word` meets its contract. Assumes nothing.
 use native.Mathlib.Omega.{arith}
-use borrow.Author.Rules.{rules}
 use Rattle.slots.proofs.place_word.Goals as goal
 
 pub returns-then-side : goal.returns-then-side

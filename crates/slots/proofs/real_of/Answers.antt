@@ -1,7 +1,6 @@
 -- `slots::real_of` meets its contract. Assumes nothing.
 use mathlib.Core.Path.{sym, ◌∙◌}
 use Rattle.slots.proofs.Nan.{no_nan_bits, of_nan_bits, zero_over_zero}
-use borrow.Author.Rules.{rules}
 use Rattle.slots.proofs.real_of.Goals as goal
 
 pub float_from_bits-result : goal.float_from_bits-result

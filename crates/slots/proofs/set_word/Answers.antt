@@ -1,7 +1,6 @@
 -- `slots::set_word` meets its contract. Assumes nothing.
 use mathlib.Core.Path.{sym}
 use lib.Seq.{set_out}
-use borrow.Author.Rules.{rules}
 use Rattle.slots.proofs.set_word.Goals as goal
 
 pub returns-else-k-table : goal.returns-else-k-table

@@ -1,7 +1,6 @@
 -- `slots::store` meets its contract. Assumes nothing.
 use native.Mathlib.Omega.{arith}
 use Rattle.slots.proofs.Round.{put_blank, put_held, put_beyond}
-use borrow.Author.Rules.{rules}
 use Rattle.slots.proofs.store.Goals as goal
 
 pub returns-in-Blank : goal.returns-in-Blank

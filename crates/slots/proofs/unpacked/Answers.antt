@@ -4,7 +4,6 @@ use borrow.Author.Tests.{ne_eqb}
 use lib.Ieee.{Float}
 use Rattle.values.specs.declared.Value.TheVariants.{Real}
 use Rattle.slots.specs.declared.Slot.TheVariants.{Held}
-use borrow.Author.Rules.{rules}
 use Rattle.slots.proofs.unpacked.Goals as goal
 
 pub returns-in-1 : goal.returns-in-1

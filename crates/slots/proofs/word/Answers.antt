@@ -1,7 +1,6 @@
 -- `slots::word` meets its contract. Assumes nothing.
 use mathlib.Core.Path.{sym}
 use lib.ListN.{get_or-eq_default}
-use borrow.Author.Rules.{rules}
 use Rattle.slots.proofs.word.Goals as goal
 
 pub returns : goal.returns

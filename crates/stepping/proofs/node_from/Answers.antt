@@ -2,7 +2,6 @@ use mathlib.Core.Path.{◌∙◌, ap}
 use Prim.Native.Nat.{ℕ}
 use Rattle.nodes.specs.Nodes.{node_of}
 use Rattle.ad.specs.Stored.{kind_at, operand_at}
-use borrow.Author.Rules.{rules}
 use Rattle.stepping.proofs.node_from.Goals as goal
 
 pub returns : goal.returns

@@ -4,7 +4,6 @@ use Rattle.links.specs.Laws.Numbering.{stands_small}
 use Rattle.slots.specs.Packed.{slot_at}
 use Rattle.evaluation.specs.Evaluation.{rule_at, seen, needed}
 use Rattle.evaluation.specs.Laws.Words.{rule_of_lem, step_stored}
-use borrow.Author.Rules.{rules}
 use Rattle.stepping.proofs.step.Goals as goal
 
 pub node_at-node-requires : goal.node_at-node-requires

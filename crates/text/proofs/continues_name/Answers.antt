@@ -1,7 +1,6 @@
 use Rattle.text.proofs.Classes.{name_digit}
 use Rattle.text.specs.Bytes.{continues_name}
 use mathlib.Core.Path.{sym, ◌∙◌}
-use borrow.Author.Rules.{rules}
 use Rattle.text.proofs.continues_name.Goals as goal
 
 pub returns-then-starts_name : goal.returns-then-starts_name

@@ -1,7 +1,6 @@
 -- `text::lower` meets its contract. Assumes nothing.
 use borrow.Author.Tests.{le-leb, lt-leb}
 use Rattle.text.specs.Bytes.{lower_case}
-use borrow.Author.Rules.{rules}
 use Rattle.text.proofs.lower.Goals as goal
 
 pub returns-then-b-le90 : goal.returns-then-b-le90

@@ -1,9 +1,7 @@
 -- `text::same_name` meets its contract. Assumes nothing.
-use mathlib.Core.Path.{◌≡◌, refl, sym, ◌∙◌}
-use Prim.Native.Nat.{◌≤◌, ◌-◌}
-use lib.ListN.{length, drop}
-use Rattle.text.specs.Strings.{same_bytes, same_name}
-use Rattle.text.proofs.Compare.{lowered, unequal_names, names_differ, names_agree, names_finished}
+use mathlib.Core.Path.{refl, sym, ◌∙◌}
+use Rattle.text.specs.Strings.{same_name}
+use Rattle.text.proofs.Compare.{unequal_names, names_differ, names_agree, names_finished}
 use borrow.Author.Rules.{rules}
 use Rattle.text.proofs.same_name.Goals as goal
 

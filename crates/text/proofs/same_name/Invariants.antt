@@ -1,9 +1,8 @@
-use mathlib.Core.Path.{◌≡◌, refl, sym, ◌∙◌}
+use mathlib.Core.Path.{◌≡◌}
 use Prim.Native.Nat.{◌≤◌, ◌-◌}
 use lib.ListN.{length, drop}
 use Rattle.text.specs.Strings.{same_bytes, same_name}
-use Rattle.text.proofs.Compare.{lowered, unequal_names, names_differ, names_agree, names_finished}
-use borrow.Author.Rules.{rules}
+use Rattle.text.proofs.Compare.{lowered}
 use Rattle.text.proofs.same_name.Given as goal
 
 abbrev pub invariant-loop-i : goal.invariant-loop-i

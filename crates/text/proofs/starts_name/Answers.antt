@@ -1,6 +1,5 @@
 use Rattle.text.specs.Bytes.{starts_name}
 use mathlib.Core.Path.{sym, ◌∙◌}
-use borrow.Author.Rules.{rules}
 use Rattle.text.proofs.starts_name.Goals as goal
 
 pub returns-then-is_letter : goal.returns-then-is_letter

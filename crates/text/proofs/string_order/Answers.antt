@@ -1,9 +1,7 @@
 -- `text::string_order` meets its contract. Assumes nothing.
-use mathlib.Core.Path.{◌≡◌, refl, sym, ◌∙◌}
-use Prim.Native.Nat.{◌≤◌, ◌-◌}
-use lib.ListN.{length, drop}
-use Rattle.text.specs.Strings.{bytes_order, string_order}
-use Rattle.text.proofs.Compare.{lowered, less, greater, next, longer, shorter, ended}
+use mathlib.Core.Path.{refl, sym, ◌∙◌}
+use Rattle.text.specs.Strings.{string_order}
+use Rattle.text.proofs.Compare.{less, greater, next, longer, shorter, ended}
 use borrow.Author.Rules.{rules}
 use Rattle.text.proofs.string_order.Goals as goal
 

@@ -1,9 +1,8 @@
-use mathlib.Core.Path.{◌≡◌, refl, sym, ◌∙◌}
+use mathlib.Core.Path.{◌≡◌}
 use Prim.Native.Nat.{◌≤◌, ◌-◌}
 use lib.ListN.{length, drop}
 use Rattle.text.specs.Strings.{bytes_order, string_order}
-use Rattle.text.proofs.Compare.{lowered, less, greater, next, longer, shorter, ended}
-use borrow.Author.Rules.{rules}
+use Rattle.text.proofs.Compare.{lowered}
 use Rattle.text.proofs.string_order.Given as goal
 
 abbrev pub invariant-loop-i : goal.invariant-loop-i

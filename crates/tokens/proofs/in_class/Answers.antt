@@ -1,4 +1,3 @@
-use borrow.Author.Rules.{rules}
 use Rattle.tokens.proofs.in_class.Goals as goal
 
 pub returns-then-digits : goal.returns-then-digits

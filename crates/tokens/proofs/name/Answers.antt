@@ -1,7 +1,6 @@
 use native.Mathlib.Omega.{arith}
 use mathlib.Core.Path.{◌∙◌}
 use Rattle.tokens.proofs.Laws.{name_long, name_token, run_some}
-use borrow.Author.Rules.{rules}
 use Rattle.tokens.proofs.name.Goals as goal
 
 pub returns-then-q-p-gt-NAME_BYTES : goal.returns-then-q-p-gt-NAME_BYTES

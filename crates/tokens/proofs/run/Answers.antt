@@ -1,11 +1,5 @@
-use borrow.Author.Rules.{rules}
 use native.Mathlib.Omega.{arith}
-use Prim.Native.Nat.{◌≤◌, ◌-◌}
-use mathlib.Core.Path.{◌≡◌, sym, ◌∙◌}
-use mathlib.Core.List.{◌++◌}
-use lib.ListN.{length, drop}
-use lib.Seq.{slice}
-use Rattle.syntax.specs.Token.{front_of}
+use mathlib.Core.Path.{sym, ◌∙◌}
 use Rattle.tokens.specs.Inner.Meaning.{class_of}
 use Rattle.tokens.proofs.Laws.{run_start, run_step, run_stop, run_end}
 use Rattle.tokens.proofs.run.Goals as goal

@@ -8,7 +8,6 @@ use lib.ListN.{take, drop}
 use Prim.Native.Nat.{◌-◌}
 use Rattle.tokens.specs.Inner.Meaning.{tokens_at}
 use Rattle.tokens.proofs.Laws.{word_true, word_false, word_undefined, word_error, word_is, word_isnt, word_parent, word_other, word_name}
-use borrow.Author.Rules.{rules}
 use Rattle.tokens.proofs.word.Goals as goal
 
 pub returns-then-same_name : goal.returns-then-same_name

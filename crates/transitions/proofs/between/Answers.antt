@@ -1,6 +1,5 @@
 use native.Mathlib.Omega.{arith}
 use Rattle.transitions.proofs.Steps.{step_start}
-use borrow.Author.Rules.{rules}
 use Rattle.transitions.proofs.between.Goals as goal
 
 pub begin-requires : goal.begin-requires

@@ -1,6 +1,5 @@
 use native.Mathlib.Omega.{arith}
 use Rattle.transitions.proofs.Steps.{small_in, kept_grows, need_in, step_link, step_last}
-use borrow.Author.Rules.{rules}
 use Rattle.transitions.proofs.inside.Goals as goal
 
 pub followed-i-requires : goal.followed-i-requires

@@ -5,7 +5,6 @@ use Rattle.tree_check.specs.Inner.Decode.{wrap_length}
 use Rattle.tree_check.specs.declared.Walk.TheVariants.{Tree}
 use Rattle.syntax.proofs.Laws.Codes.{binds_low}
 use native.Mathlib.Omega.{arith}
-use borrow.Author.Rules.{rules}
 use Rattle.tree_check.proofs.binary_walk.Goals as goal
 
 pub overflow_add-k : goal.overflow_add-k

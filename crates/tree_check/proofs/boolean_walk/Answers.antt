@@ -5,7 +5,6 @@ use Rattle.tree_check.proofs.Tests.{walk_if_lem, walk_bad}
 use Rattle.tree_check.specs.Inner.Decode.{boolean_fits}
 use borrow.Author.Tests.{leb-true}
 use native.Mathlib.Omega.{arith}
-use borrow.Author.Rules.{rules}
 use Rattle.tree_check.proofs.boolean_walk.Goals as goal
 
 pub overflow_sub-result : goal.overflow_sub-result

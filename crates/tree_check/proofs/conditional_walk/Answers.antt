@@ -1,7 +1,6 @@
 use mathlib.Core.Path.{◌∙◌}
 use Prim.Native.Nat.{◌+◌, max}
 use Rattle.tree_check.specs.declared.Walk.TheVariants.{Tree}
-use borrow.Author.Rules.{rules}
 use Rattle.tree_check.proofs.conditional_walk.Goals as goal
 
 pub returns : goal.returns

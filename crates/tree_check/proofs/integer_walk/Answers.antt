@@ -1,7 +1,6 @@
 use mathlib.Core.Path.{sym, ◌∙◌, ap}
 use Rattle.tree_check.proofs.Tests.{walk_if_lem, walk_bad}
 use Rattle.tree_check.specs.Inner.Decode.{integer_fits, plain_walk}
-use borrow.Author.Rules.{rules}
 use Rattle.tree_check.proofs.integer_walk.Goals as goal
 
 pub returns-then-both : goal.returns-then-both

@@ -1,7 +1,6 @@
 use mathlib.Core.Path.{sym, ◌∙◌}
 use Rattle.tree_check.proofs.Tests.{walk_if_lem, walk_bad}
 use Rattle.tree_check.specs.Inner.Decode.{keyword_fits}
-use borrow.Author.Rules.{rules}
 use Rattle.tree_check.proofs.keyword_walk.Goals as goal
 
 pub returns-then-both : goal.returns-then-both

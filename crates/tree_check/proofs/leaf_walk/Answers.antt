@@ -1,5 +1,4 @@
 use Rattle.tree_check.proofs.Tests.{leaf_third, leaf_is, leaf_none, leaf_undefined, leaf_error, leaf_boolean, leaf_integer, leaf_real, leaf_string, leaf_own, leaf_other}
-use borrow.Author.Rules.{rules}
 use Rattle.tree_check.proofs.leaf_walk.Goals as goal
 
 pub returns-then-operand-ne0 : goal.returns-then-operand-ne0

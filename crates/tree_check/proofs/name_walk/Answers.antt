@@ -6,7 +6,6 @@ use Rattle.tree_check.specs.Inner.Decode.{stands_at}
 use Rattle.tree_check.proofs.Tests.{walk_if_lem, walk_bad, stands_room}
 use Rattle.lexemes.proofs.Laws.{ands}
 use native.Mathlib.Omega.{arith}
-use borrow.Author.Rules.{rules}
 use Rattle.tree_check.proofs.name_walk.Goals as goal
 
 pub overflow_add-result : goal.overflow_add-result

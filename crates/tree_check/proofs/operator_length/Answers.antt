@@ -2,7 +2,6 @@ use mathlib.Core.Path.{refl}
 use Rattle.syntax.specs.Print.{binary_text}
 use Rattle.text.specs.Bytes.{bytes}
 use native.Mathlib.Omega.{arith}
-use borrow.Author.Rules.{rules}
 use Rattle.tree_check.proofs.operator_length.Goals as goal
 
 pub returns-in-Or : goal.returns-in-Or

@@ -2,7 +2,6 @@ use mathlib.Core.Path.{sym, ◌∙◌, ap}
 use Rattle.tree_check.proofs.Tests.{walk_if_lem, walk_bad, places_few}
 use Rattle.tree_check.specs.Inner.Decode.{plain_walk}
 use Rattle.syntax.specs.Inner.Lexeme.{is_real}
-use borrow.Author.Rules.{rules}
 use Rattle.tree_check.proofs.real_walk.Goals as goal
 
 pub real_length-requires : goal.real_length-requires

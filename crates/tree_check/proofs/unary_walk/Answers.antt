@@ -1,6 +1,5 @@
 use Prim.Native.Nat.{◌+◌}
 use Rattle.tree_check.specs.declared.Walk.TheVariants.{Tree}
-use borrow.Author.Rules.{rules}
 use Rattle.tree_check.proofs.unary_walk.Goals as goal
 
 pub returns : goal.returns

@@ -1,6 +1,6 @@
 use mathlib.Core.Path.{refl, sym, ◌∙◌, ap}
 use mathlib.Core.List.{[], ◌∷◌, ◌++◌}
-use Prim.Native.Nat.{ℕ, ◌+◌, ◌*◌, ◌<◌}
+use Prim.Native.Nat.{ℕ, ◌+◌}
 use lib.ListN.{length}
 use Rattle.text.specs.Bytes.{bytes}
 use Rattle.writer.proofs.Laws.{puts_as}
@@ -12,9 +12,7 @@ use Rattle.syntax.specs.declared.Binary.{Binary}
 use Rattle.syntax.specs.declared.Unary.{Unary}
 use Rattle.ad.specs.Stored.{kind_at, operand_at, unary_of, binary_of}
 use Rattle.tree_printer.specs.Sizes.{tree_size}
-use borrow.Author.Rules.{rules}
 use native.Mathlib.Omega.{arith}
-use Prim.Native.Nat.{ℕ, ◌<◌}
 use Rattle.tree_printer.proofs.+tree.Goals as goal
 
 pub put_operand-binding-requires : goal.put_operand-binding-requires

@@ -2,7 +2,6 @@ use mathlib.Core.Path.{◌∙◌, ap}
 use Rattle.tree_printer.proofs.Trees.{binds_leaf, binds_unary, binds_conditional, binds_binary}
 use Rattle.syntax.specs.Grammar.{binds_of}
 use Rattle.tree_printer.specs.Inner.Post.{binds_kind}
-use borrow.Author.Rules.{rules}
 use Rattle.tree_printer.proofs.binding.Goals as goal
 
 pub returns-then-k-lt9 : goal.returns-then-k-lt9

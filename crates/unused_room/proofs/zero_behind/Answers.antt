@@ -4,7 +4,6 @@ use Rattle.unused_room.proofs.Zeros.{rest_all}
 use Rattle.lexemes.proofs.Laws.{ands}
 use Rattle.syntax.specs.Inner.Lexeme.{every}
 use Rattle.unused_room.specs.Inner.Zeros.{is_zero}
-use borrow.Author.Rules.{rules}
 use Rattle.unused_room.proofs.zero_behind.Goals as goal
 
 pub returns : goal.returns

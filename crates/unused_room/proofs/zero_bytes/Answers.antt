@@ -1,8 +1,5 @@
 -- `well_formed::zero_bytes` meets its contract. Assumes nothing.
-use Prim.Native.Nat.{◌-◌}
-use lib.ListN.{length}
-use borrow.Author.Rules.{rules}
-use Rattle.unused_room.proofs.Zeros.{Looked, start, next, end}
+use Rattle.unused_room.proofs.Zeros.{start, next, end}
 use Rattle.unused_room.proofs.zero_bytes.Goals as goal
 
 pub loop-i-init : goal.loop-i-init

@@ -1,7 +1,6 @@
 use Prim.Native.Nat.{◌-◌}
 use lib.ListN.{length}
-use borrow.Author.Rules.{rules}
-use Rattle.unused_room.proofs.Zeros.{Looked, start, next, end}
+use Rattle.unused_room.proofs.Zeros.{Looked}
 use Rattle.unused_room.proofs.zero_words.Given as goal
 
 abbrev pub invariant-loop-i : goal.invariant-loop-i

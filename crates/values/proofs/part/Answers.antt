@@ -1,5 +1,4 @@
 -- `values::part` meets its contract. Assumes nothing.
-use borrow.Author.Rules.{rules}
 use Rattle.values.proofs.part.Goals as goal
 
 pub returns-then-side : goal.returns-then-side

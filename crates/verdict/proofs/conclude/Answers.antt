@@ -1,7 +1,6 @@
 use mathlib.Core.Path.{ap, ◌∙◌}
 use mathlib.Core.Bool.{◌&&◌}
 use Rattle.verdict.specs.Verdict.{is_true, rank_of}
-use borrow.Author.Rules.{rules}
 use Rattle.verdict.proofs.conclude.Goals as goal
 
 pub returns : goal.returns

@@ -1,6 +1,5 @@
 use mathlib.Core.Path.{sym, ap, ◌∙◌}
 use Rattle.verdict.specs.Verdict.{rank_of}
-use borrow.Author.Rules.{rules}
 use Rattle.verdict.proofs.rank_of.Goals as goal
 
 pub returns-in-Integer : goal.returns-in-Integer

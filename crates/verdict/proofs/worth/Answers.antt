@@ -1,5 +1,4 @@
 use Rattle.verdict.specs.Laws.Marked.{worth_none, worth_some}
-use borrow.Author.Rules.{rules}
 use Rattle.verdict.proofs.worth.Goals as goal
 
 pub returns-then-mark-eq0 : goal.returns-then-mark-eq0

@@ -3,7 +3,6 @@ use Rattle.lexemes.proofs.Laws.{ands}
 use Rattle.well_formed.proofs.Answer.{room_bad, rows_inside, room_not, room_good}
 use Rattle.well_formed.proofs.Entries.{rows_room}
 use native.Mathlib.Omega.{arith}
-use borrow.Author.Rules.{rules}
 use Rattle.well_formed.proofs.check_room.Goals as goal
 
 pub rows_from-requires : goal.rows_from-requires

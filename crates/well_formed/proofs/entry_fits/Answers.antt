@@ -6,7 +6,6 @@ use Rattle.syntax.specs.Inner.Lexeme.{is_name}
 use Rattle.lexemes.proofs.Laws.{ands}
 use Rattle.ad.specs.Stored.{bytes_at}
 use Rattle.tree_check.specs.Inner.Decode.{stands_at}
-use borrow.Author.Rules.{rules}
 use Rattle.well_formed.proofs.entry_fits.Goals as goal
 
 pub returns : goal.returns

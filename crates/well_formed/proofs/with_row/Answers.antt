@@ -1,7 +1,6 @@
 use mathlib.Core.Path.{sym, ap}
 use Rattle.well_formed.specs.Inner.Decode.{row_before}
 use native.Mathlib.Omega.{arith}
-use borrow.Author.Rules.{rules}
 use Rattle.well_formed.proofs.with_row.Goals as goal
 
 pub overflow_add-result-in-Ads-2 : goal.overflow_add-result-in-Ads-2

@@ -1,8 +1,5 @@
-use Prim.Native.Nat.{ℕ, ◌<◌}
 use Rattle.writer.proofs.Laws.{decimal_puts_one, decimal_puts_more, near_decimal, near_decimal_last, near_one}
-use borrow.Author.Rules.{rules}
 use native.Mathlib.Omega.{arith}
-use Prim.Native.Nat.{ℕ, ◌<◌}
 use Rattle.writer.proofs.+put_decimal.Goals as goal
 
 pub overflow_add-result : goal.overflow_add-result

@@ -1,8 +1,5 @@
-use Prim.Native.Nat.{ℕ, ◌<◌}
 use Rattle.writer.proofs.Laws.{real_puts_none, real_puts_more, near_whole, near_real}
-use borrow.Author.Rules.{rules}
 use native.Mathlib.Omega.{arith}
-use Prim.Native.Nat.{ℕ, ◌<◌}
 use Rattle.writer.proofs.+put_real.Goals as goal
 
 pub put_decimal-m-requires : goal.put_decimal-m-requires

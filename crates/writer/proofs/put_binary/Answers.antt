@@ -1,6 +1,5 @@
 use Rattle.writer.proofs.Laws.{puts_join, puts_byte}
 use native.Mathlib.Omega.{arith}
-use borrow.Author.Rules.{rules}
 use Rattle.writer.proofs.put_binary.Goals as goal
 
 pub put_operator-m-requires : goal.put_operator-m-requires

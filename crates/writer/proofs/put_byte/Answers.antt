@@ -1,5 +1,4 @@
 use Rattle.writer.proofs.Laws.{outside}
-use borrow.Author.Rules.{rules}
 use Rattle.writer.proofs.put_byte.Goals as goal
 
 pub returns-else-at-out : goal.returns-else-at-out

@@ -2,7 +2,6 @@ use mathlib.Core.Path.{sym, ap}
 use lib.ListN.{length}
 use Rattle.writer.proofs.Laws.{puts_as, puts_byte, escaped_1, escaped_2, escaped_3, escaped_4, escaped_5}
 use native.Mathlib.Omega.{arith}
-use borrow.Author.Rules.{rules}
 use Rattle.writer.proofs.put_escaped.Goals as goal
 
 pub put-requires : goal.put-requires

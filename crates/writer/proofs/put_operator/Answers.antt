@@ -1,6 +1,5 @@
 use Rattle.text.specs.Bytes.{bytes}
 use Rattle.writer.proofs.Operators.{operator_near, operator_puts}
-use borrow.Author.Rules.{rules}
 use Rattle.writer.proofs.put_operator.Goals as goal
 
 pub put_part-requires : goal.put_part-requires

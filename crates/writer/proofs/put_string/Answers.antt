@@ -1,11 +1,6 @@
-use mathlib.Core.Path.{◌≡◌, refl, ◌∙◌}
-use Prim.Native.Nat.{◌+◌, ◌-◌, ◌≤◌}
-use lib.ListN.{length, drop}
-use lib.Seq.{sets}
-use Rattle.syntax.specs.Print.{escaped_all}
+use mathlib.Core.Path.{refl, ◌∙◌}
 use Rattle.writer.proofs.Laws.{escaped_step, string_puts, length_string}
 use Rattle.lexemes.proofs.Laws.{escaped_more}
-use borrow.Author.Rules.{rules}
 use native.Mathlib.Omega.{arith}
 use Rattle.writer.proofs.put_string.Goals as goal
 

@@ -1,12 +1,8 @@
-use mathlib.Core.Path.{◌≡◌, refl, ◌∙◌}
+use mathlib.Core.Path.{◌≡◌}
 use Prim.Native.Nat.{◌+◌, ◌-◌, ◌≤◌}
 use lib.ListN.{length, drop}
 use lib.Seq.{sets}
 use Rattle.syntax.specs.Print.{escaped_all}
-use Rattle.writer.proofs.Laws.{escaped_step, string_puts, length_string}
-use Rattle.lexemes.proofs.Laws.{escaped_more}
-use borrow.Author.Rules.{rules}
-use native.Mathlib.Omega.{arith}
 use Rattle.writer.proofs.put_string.Given as goal
 
 abbrev pub invariant-loop-i : goal.invariant-loop-i

@@ -1,7 +1,6 @@
 use Rattle.syntax.specs.Print.{unary_text}
 use Rattle.text.specs.Bytes.{bytes}
 use native.Mathlib.Omega.{arith}
-use borrow.Author.Rules.{rules}
 use Rattle.writer.proofs.put_unary.Goals as goal
 
 pub put-requires : goal.put-requires
