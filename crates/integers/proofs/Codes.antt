@@ -3,7 +3,7 @@
 use Rattle.std.proofs.Common.{◌≡◌, ℕ, suc, ◌+◌, ◌-◌, ◌*◌, ◌/◌, ◌%◌, ◌^◌, ◌<◌, ◌≤◌, Bool, true, false, cond, ltb, ◌⊎◌, ℤ, pos, negsuc, ◌-ℤ◌, neg_ℤ, nat_abs, sym, refl, ap, ◌∙◌, inl, inr, ⊎_elim, lt_of_le_of_lt, le_of_lt, mod-eq_of_lt, mul-le-mul_left, mul-lt-mul_of_pos_right, arith, pow_pos, pow-add, ltb-false, ltb-true, le-ltb, lt-ltb}
 use mathlib.Core.Path.{subst⁻¹}
 use native.Mathlib.Nat.{div-zero, mod-zero, mod-eq-sub-mod}
-use lib.IntN.{-ℤ-+ℤ_cancel, +ℤ_idl, +ℤ_invl}
+use lib.IntN.{ -ℤ-+ℤ_cancel, +ℤ_idl, +ℤ_invl}
 use lib.Signed.{quot_z, rem_z}
 use Rattle.integers.specs.Integers.{wrap, signed, wrapped_sum, wrapped_difference, wrapped_product, wrapped_negation, truncated_quotient, signed_remainder}
 use Rattle.integers.proofs.Ring.{wrap_lt, wrap_sum, wrap_product, wrap_signed}
