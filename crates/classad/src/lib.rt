@@ -1,3 +1,4 @@
+#![tactic(auto)]
 // The public face: every public function, none of which requires anything, and the same for programs in other languages, on numbers and
 // slices (docs/LAYOUT.md). Any bytes and numbers may come, in memory of any length.
 // The kit exports C functions of this crate alone. What each does, and with the same contract, is in the crates `c_..`.

@@ -1,3 +1,4 @@
+#![tactic(auto)]
 // What a stored ad says of its definitions and references.
 
 // The root of a definition.
