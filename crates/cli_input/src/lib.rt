@@ -4,7 +4,7 @@ ghost use Rattle.cli_input.specs.Input.{GotFits};
 
 use std::env::Env;
 use std::fs::File;
-use std::io::{self, ErrorKind, Read};
+use std::io::{self, Read};
 
 // What C says of a name that is no text: std opens files by names in UTF-8 alone.
 const EILSEQ: i32 = 84;
