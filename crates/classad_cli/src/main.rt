@@ -1,5 +1,6 @@
-#![tactic(auto)]
 // The command classad over the proved library. docs/COMMANDS.md says what it writes.
+#![tactic(auto)]
+
 use ad_reader::Answer;
 use cli_arguments::Request;
 use cli_input::Input;

@@ -1,5 +1,6 @@
-#![tactic(auto)]
 // The commands of one ad: check and print.
+#![tactic(auto)]
+
 use ad_reader::Answer;
 use cli_input::Input;
 use printer::Printed;

@@ -1,5 +1,6 @@
-#![tactic(auto)]
 // The command line: which command it asks for.
+#![tactic(auto)]
+
 ghost use Rattle.std.specs.Prelude.{◌≤◌, ◌<◌};
 
 use std::env::{Env, FillError};

@@ -1,5 +1,6 @@
-#![tactic(auto)]
 // The references between the definitions of two ads, as a text for Graphviz.
+#![tactic(auto)]
+
 use cli_output::{byte, say, side};
 use cli_stored::Found;
 

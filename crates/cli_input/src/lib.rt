@@ -1,5 +1,6 @@
-#![tactic(auto)]
 // The files of the command line.
+#![tactic(auto)]
+
 ghost use Rattle.cli_input.specs.Input.{GotFits};
 
 use std::env::Env;

@@ -1,6 +1,7 @@
-#![tactic(auto)]
 // How the command writes its lines. `rt` stands for the system. `out` is whether standard output takes what is written: once it does
 // not, that is said on standard error, and nothing more is written.
+#![tactic(auto)]
+
 use std::env::Env;
 use std::io::{self, Cursor, Write};
 

@@ -1,6 +1,7 @@
-#![tactic(auto)]
 // The lines of a refusal: why a text is refused, and where. Where a number has several causes, the bytes around the place tell which it
 // is.
+#![tactic(auto)]
+
 use cli_output::{byte, counted, say};
 
 // What stands first in a string that none may hold.

@@ -1,5 +1,5 @@
-#![tactic(auto)]
 // What a stored ad says of its definitions and references.
+#![tactic(auto)]
 
 // The root of a definition.
 #[derive(Drop)]

@@ -1,5 +1,6 @@
-#![tactic(auto)]
 // The list of a match, entry by entry.
+#![tactic(auto)]
+
 use cli_output::{byte, number, say};
 use printer::Printed;
 

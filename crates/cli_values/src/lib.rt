@@ -1,5 +1,6 @@
-#![tactic(auto)]
 // How values are written.
+#![tactic(auto)]
+
 ghost use Rattle.std.specs.Prelude.{◌≤◌};
 
 use cli_output::{byte, number, say};

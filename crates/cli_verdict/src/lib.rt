@@ -1,5 +1,6 @@
-#![tactic(auto)]
 // The lines behind a match: the verdict with its reasons, the ranks and the steps.
+#![tactic(auto)]
+
 use cli_output::{byte, counted, say, side};
 use cli_stored::Found;
 use matching::Outcome;
