@@ -6,6 +6,8 @@ A case is a folder:
     output      the expected standard output
     more        what a program with an exit status prints behind it, and the one without cannot
     errors      the expected standard error, empty where this file is not there
+    output-cli  there where the program without an exit status prints this in place of output,
+    errors-cli  and this on standard error: it opens files by names in UTF-8 alone
     status      the expected exit status
     bound       there where permissions must bind the command, even if root runs it
 and the files that the command reads. The command runs in a copy of that folder, in which
@@ -64,9 +66,9 @@ def run_case(program, folder, with_status):
         )
     except subprocess.TimeoutExpired:
         return [f"not ended after {SECONDS} seconds"]
-    expected = content(folder / "output") + (content(folder / "more") if with_status else b"")
-    differences = difference(folder, "output", expected, done.stdout)
-    differences += difference(folder, "errors", content(folder / "errors"), done.stderr)
+    more = content(folder / "more") if with_status else b""
+    differences = difference(folder, "output", expected(folder, "output", with_status) + more, done.stdout)
+    differences += difference(folder, "errors", expected(folder, "errors", with_status), done.stderr)
     if done.returncode < 0:
         return differences + [f"ended by signal {-done.returncode}"]
     if with_status:
@@ -77,6 +79,12 @@ def run_case(program, folder, with_status):
 
 def arguments(folder):
     return (folder / "arguments").read_bytes().split(b"\n")[:-1]
+
+
+def expected(folder, part, with_status):
+    """What a case expects of a part, of the program with an exit status or the one without."""
+    own = folder / f"{part}-cli"
+    return content(folder / part if with_status or not own.exists() else own)
 
 
 def content(file):

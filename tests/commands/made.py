@@ -233,9 +233,13 @@ def write_names(folder):
     files = {b"b\xe4d \xff.ad": b"]", "good.ad": b"[]"}
     accepted = b"good.ad: accepted, 0 definitions, 0 nodes\n"
     output = b"b\xe4d \xff.ad: refused 4 at 0 (line 1, column 1): token does not fit here\n]\n^\n" + accepted
-    write(folder / "name-of-any-bytes", ["check", *files], output, status=1, files=files)
+    no_text = b": Invalid or incomplete multibyte or wide character\n"  # of the program in Rattle, whose std opens names in UTF-8 alone
+    own = {"output-cli": accepted, "errors-cli": b"classad: b\xe4d \xff.ad" + no_text}
+    write(folder / "name-of-any-bytes", ["check", *files], output, status=1, files=files | own)
     errors = b"classad: m\xe4\xff: No such file or directory\n"
-    write(folder / "missing-name-of-any-bytes", ["check", b"m\xe4\xff"], errors=errors, status=2)
+    own = {"errors-cli": b"classad: m\xe4\xff" + no_text}
+    write(folder / "missing-name-of-any-bytes", ["check", b"m\xe4\xff"], errors=errors, status=2, files=own)
+    write(folder / "name-in-utf-8", ["check", "ß ☃.ad"], "ß ☃.ad: accepted, 0 definitions, 0 nodes\n".encode(), files={"ß ☃.ad": b"[]"})
     longest = "./" * 2044 + "good.ad"
     output = b"./" * 2044 + accepted
     write(folder / "name-of-4095-bytes", ["check", longest], output, files=files)

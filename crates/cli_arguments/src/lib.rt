@@ -1,5 +1,9 @@
 // The command line: which command it asks for.
+#![tactic(auto)]
+
 ghost use Rattle.std.specs.Prelude.{◌≤◌, ◌<◌};
+
+use std::env::{Env, FillError};
 
 #[derive(Drop)]
 enum Command {
@@ -67,12 +71,22 @@ fn command_of(word: &[u8]) -> Command {
     Command::Unknown
 }
 
+// How many words the command line has, the program's name among them.
+fn argument_count(rt: &HostRuntime) -> usize {
+    for i in 0..usize::MAX {
+        if let Err(FillError::NotPresent) = rt.arg(i, &mut [0u8; 1]) {
+            return i;
+        }
+    }
+    usize::MAX
+}
+
 // 1 where an argument is `-`, else 0.
-fn input_count(i: usize) -> usize
+fn input_count(rt: &HostRuntime, i: usize) -> usize
     ensures { result ≤ 1 }
 {
     let mut word = [0u8; 2];
-    let n = os::arg(i, &mut word);
+    let n = rt.arg(i, &mut word).unwrap_or(0);
     if text::same_bytes(ad::part(&word, 0, n), b"-") {
         return 1;
     }
@@ -80,11 +94,11 @@ fn input_count(i: usize) -> usize
 }
 
 // How many of the arguments from i up to `end` are `-`.
-fn inputs(from: usize, end: usize) -> usize {
+fn inputs(rt: &HostRuntime, from: usize, end: usize) -> usize {
     let mut n = 0;
     let mut i = from;
     while i < end {
-        n += input_count(i);
+        n += input_count(rt, i);
         i += 1;
     }
     n
@@ -116,9 +130,9 @@ fn budget_of(word: &[u8]) -> Budget {
 }
 
 // The budget that an argument gives.
-fn budget_argument(i: usize) -> Budget {
-    let mut word = io::large_buffer();
-    let n = os::arg(i, &mut word);
+fn budget_argument(rt: &HostRuntime, i: usize) -> Budget {
+    let mut word = [0u8; 65536];
+    let n = rt.arg(i, &mut word).unwrap_or(0);
     budget_of(&word[..n])
 }
 
@@ -130,11 +144,11 @@ fn only(count: usize, n: usize, request: Request) -> Request {
     Request::Wrong
 }
 
-fn check_request(count: usize) -> Request {
+fn check_request(rt: &HostRuntime, count: usize) -> Request {
     if count < 3 {
         return Request::Wrong;
     }
-    if inputs(2, count) > 1 {
+    if inputs(rt, 2, count) > 1 {
         return Request::Wrong;
     }
     Request::Check(count)
@@ -148,44 +162,44 @@ fn match_request(trace: bool, budget: u16) -> Request {
 }
 
 // A match with the budget that the last of five words gives.
-fn budgeted_request(trace: bool) -> Request {
-    match budget_argument(4) {
+fn budgeted_request(rt: &HostRuntime, trace: bool) -> Request {
+    match budget_argument(rt, 4) {
         Budget::Steps(n) => match_request(trace, n),
         Budget::Bad => Request::Wrong,
     }
 }
 
-fn pair_request(count: usize, trace: bool) -> Request {
-    if inputs(2, 4) > 1 {
+fn pair_request(rt: &HostRuntime, count: usize, trace: bool) -> Request {
+    if inputs(rt, 2, 4) > 1 {
         return Request::Wrong;
     }
     if count == 4 {
         return match_request(trace, 65535);
     }
     if count == 5 {
-        return budgeted_request(trace);
+        return budgeted_request(rt, trace);
     }
     Request::Wrong
 }
 
-fn graph_request(count: usize) -> Request {
-    if inputs(2, 4) > 1 {
+fn graph_request(rt: &HostRuntime, count: usize) -> Request {
+    if inputs(rt, 2, 4) > 1 {
         return Request::Wrong;
     }
     only(count, 4, Request::Graph)
 }
 
 // What the command line asks for.
-pub fn requested() -> Request {
+pub fn requested(rt: &HostRuntime) -> Request {
     let mut word = [0u8; 16];
-    let n = os::arg(1, &mut word);
-    let count = os::arg_count();
+    let n = rt.arg(1, &mut word).unwrap_or(0);
+    let count = argument_count(rt);
     match command_of(ad::part(&word, 0, n)) {
-        Command::Check => check_request(count),
+        Command::Check => check_request(rt, count),
         Command::Print => only(count, 3, Request::Print),
-        Command::Match => pair_request(count, false),
-        Command::Trace => pair_request(count, true),
-        Command::Graph => graph_request(count),
+        Command::Match => pair_request(rt, count, false),
+        Command::Trace => pair_request(rt, count, true),
+        Command::Graph => graph_request(rt, count),
         Command::Help => only(count, 2, Request::Help),
         Command::Version => only(count, 2, Request::Version),
         Command::Unknown => Request::Wrong,

@@ -7,4 +7,4 @@ use Rattle.cli_input.specs.declared.Got.TheVariants.{Bytes, End, Failed}
 abbrev pub GotFits : List ℕ → Got → Type 0
 GotFits rest (Bytes n) = (0 < n) × (n ≤ length rest)
 GotFits rest End = Unit {0}
-GotFits rest Failed = Unit {0}
+GotFits rest (Failed _) = Unit {0}

@@ -1,5 +1,14 @@
 // The files of the command line.
+#![tactic(auto)]
+
 ghost use Rattle.cli_input.specs.Input.{GotFits};
+
+use std::env::Env;
+use std::fs::File;
+use std::io::{self, Read};
+
+// What C says of a name that is no text: std opens files by names in UTF-8 alone.
+const EILSEQ: i32 = 84;
 
 // A file's text in the front part of the memory for it, or a failure, which was said.
 #[derive(Drop)]
@@ -13,77 +22,70 @@ pub enum Input {
 enum Got {
     Bytes(usize),
     End,
-    Failed,
+    Failed(io::Error),
 }
 
-// Says why a file cannot be read.
-fn fail(name: &[u8]) {
-    io::write_all(libc::STDERR_FILENO, b"classad: ");
-    os::fail(name);
-}
-
-fn read_some(fd: i32, rest: &mut [u8]) -> Got
+fn read_some<R: Read>(input: &mut R, rest: &mut [u8]) -> Got
     ensures { GotFits rest.old result }
 {
-    let got = libc::read(fd, rest);
-    if got < 0 {
-        return Got::Failed;
+    match input.read(rest) {
+        Err(error) => Got::Failed(error),
+        Ok(0) => Got::End,
+        Ok(n) => Got::Bytes(n),
     }
-    let n = io::count(got, rest);
-    if n == 0 {
-        return Got::End;
-    }
-    Got::Bytes(n)
 }
 
 // Reads until the memory is full or the input ends.
-fn read_all(fd: i32, text: &mut [u8]) -> Input {
+fn read_all<R: Read>(input: &mut R, text: &mut [u8]) -> io::Result<usize> {
     let mut n = 0;
     while n < text.len() {
-        match read_some(fd, &mut text[n..]) {
-            Got::Failed => {
-                return Input::Failed;
+        match read_some(input, &mut text[n..]) {
+            Got::Failed(error) => {
+                return Err(error);
             }
             Got::End => {
-                return Input::Text(n);
+                return Ok(n);
             }
             Got::Bytes(k) => {
                 n += k;
             }
         }
     }
-    Input::Text(n)
+    Ok(n)
 }
 
 // What was read, once a failure is said.
-fn told(name: &[u8], answer: Input) -> Input {
+fn told(rt: &HostRuntime, name: &[u8], answer: io::Result<usize>) -> Input {
     match answer {
-        Input::Text(n) => Input::Text(n),
-        Input::Failed => {
-            fail(name);
+        Ok(n) => Input::Text(n),
+        Err(error) => {
+            cli_output::fail(rt, name, error);
             Input::Failed
         }
     }
 }
 
+fn open(rt: &HostRuntime, name: &[u8]) -> io::Result<File> {
+    match std::str::from_utf8(name) {
+        Ok(path) => File::open(rt, path),
+        Err(_) => Err(io::Error::from_raw_os_error(EILSEQ)),
+    }
+}
+
 // Reads a file, or standard input where its name is `-`.
-fn read_file(name: &[u8], text: &mut [u8]) -> Input {
+fn read_file(rt: &HostRuntime, name: &[u8], text: &mut [u8]) -> Input {
     if text::same_bytes(name, b"-") {
-        return told(name, read_all(libc::STDIN_FILENO, text));
+        return told(rt, name, read_all(&mut rt.stdin(), text));
     }
-    let fd = os::open_read(name);
-    if fd < 0 {
-        fail(name);
-        return Input::Failed;
+    match open(rt, name) {
+        Ok(mut file) => told(rt, name, read_all(&mut file, text)),
+        Err(error) => told(rt, name, Err(error)),
     }
-    let answer = told(name, read_all(fd, text));
-    libc::close(fd);
-    answer
 }
 
 // Reads the file that the argument i names.
-pub fn read_argument(i: usize, text: &mut [u8]) -> Input {
-    let mut name = io::large_buffer();
-    let n = os::arg(i, &mut name);
-    read_file(&name[..n], text)
+pub fn read_argument(rt: &HostRuntime, i: usize, text: &mut [u8]) -> Input {
+    let mut name = [0u8; 65536];
+    let n = rt.arg(i, &mut name).unwrap_or(0);
+    read_file(rt, &name[..n], text)
 }

@@ -1,5 +1,7 @@
 // The lines of a refusal: why a text is refused, and where. Where a number has several causes, the bytes around the place tell which it
 // is.
+#![tactic(auto)]
+
 use cli_output::{byte, counted, say};
 
 // What stands first in a string that none may hold.
@@ -92,76 +94,76 @@ fn is_real(rest: &[u8]) -> bool {
 }
 
 // Refusal 3: no token, or a broken string.
-fn no_token(out: &mut bool, rest: &[u8]) {
+fn no_token(rt: &HostRuntime, out: &mut bool, rest: &[u8]) {
     if byte_at(rest, 0) != b'"' {
-        say(out, b"no token starts here\n");
+        say(rt, out, b"no token starts here\n");
         return;
     }
     match flaw_of(rest) {
-        Flaw::Byte => say(out, b"bad byte in a string\n"),
-        Flaw::Escape => say(out, b"bad escape in a string\n"),
-        Flaw::End => say(out, b"string not closed\n"),
+        Flaw::Byte => say(rt, out, b"bad byte in a string\n"),
+        Flaw::Escape => say(rt, out, b"bad escape in a string\n"),
+        Flaw::End => say(rt, out, b"string not closed\n"),
     }
 }
 
 // Refusal 4: the end of the text counts as a token.
-fn misfit(out: &mut bool, rest: &[u8]) {
+fn misfit(rt: &HostRuntime, out: &mut bool, rest: &[u8]) {
     if rest.len() == 0 {
-        say(out, b"text ends early\n");
+        say(rt, out, b"text ends early\n");
         return;
     }
-    say(out, b"token does not fit here\n");
+    say(rt, out, b"token does not fit here\n");
 }
 
 // Refusal 5: a literal that is no number of its type.
-fn too_large(out: &mut bool, rest: &[u8]) {
+fn too_large(rt: &HostRuntime, out: &mut bool, rest: &[u8]) {
     if is_real(rest) {
-        say(out, b"Real over 15 digits\n");
+        say(rt, out, b"Real over 15 digits\n");
         return;
     }
-    say(out, b"Integer over 2,147,483,647\n");
+    say(rt, out, b"Integer over 2,147,483,647\n");
 }
 
 // Refusal 7: a name or a string.
-fn too_long(out: &mut bool, rest: &[u8]) {
+fn too_long(rt: &HostRuntime, out: &mut bool, rest: &[u8]) {
     if byte_at(rest, 0) == b'"' {
-        say(out, b"string over 1,024 bytes\n");
+        say(rt, out, b"string over 1,024 bytes\n");
         return;
     }
-    say(out, b"name over 64 bytes\n");
+    say(rt, out, b"name over 64 bytes\n");
 }
 
 // Refusal 9: only a definition begins behind a semicolon.
-fn too_many(out: &mut bool, text: &[u8], place: usize) {
+fn too_many(rt: &HostRuntime, out: &mut bool, text: &[u8], place: usize) {
     if byte_before(text, place) == b';' {
-        say(out, b"over 256 definitions\n");
+        say(rt, out, b"over 256 definitions\n");
         return;
     }
-    say(out, b"over 1,024 nodes\n");
+    say(rt, out, b"over 1,024 nodes\n");
 }
 
 // A phrase that the refusal's number alone decides.
-fn fixed_phrase(out: &mut bool, refusal: u8) {
+fn fixed_phrase(rt: &HostRuntime, out: &mut bool, refusal: u8) {
     match refusal {
-        1 => say(out, b"memory too small\n"),
-        2 => say(out, b"text over 16,384 bytes\n"),
-        6 => say(out, b"nested deeper than level 64\n"),
-        8 => say(out, b"name defined twice\n"),
-        10 => say(out, b"stored ad is not well formed\n"),
-        _ => say(out, b"printed text over 16,384 bytes\n"),
+        1 => say(rt, out, b"memory too small\n"),
+        2 => say(rt, out, b"text over 16,384 bytes\n"),
+        6 => say(rt, out, b"nested deeper than level 64\n"),
+        8 => say(rt, out, b"name defined twice\n"),
+        10 => say(rt, out, b"stored ad is not well formed\n"),
+        _ => say(rt, out, b"printed text over 16,384 bytes\n"),
     }
 }
 
 // The phrase of a refusal, by its number.
-fn phrase(out: &mut bool, text: &[u8], refusal: u8, place: usize) {
+fn phrase(rt: &HostRuntime, out: &mut bool, text: &[u8], refusal: u8, place: usize) {
     let rest = ad::part(text, place, text.len());
     match refusal {
-        3 => no_token(out, rest),
-        4 => misfit(out, rest),
-        5 => too_large(out, rest),
-        7 => too_long(out, rest),
-        9 => too_many(out, text, place),
-        _ => fixed_phrase(out, refusal),
+        3 => no_token(rt, out, rest),
+        4 => misfit(rt, out, rest),
+        5 => too_large(rt, out, rest),
+        7 => too_long(rt, out, rest),
+        9 => too_many(rt, out, text, place),
+        _ => fixed_phrase(rt, out, refusal),
     }
 }
 
@@ -214,35 +216,35 @@ fn less(a: usize, b: usize) -> usize {
 }
 
 // The line around a place, and a caret below it.
-fn caret(out: &mut bool, text: &[u8], place: usize, column: usize) {
+fn caret(rt: &HostRuntime, out: &mut bool, text: &[u8], place: usize, column: usize) {
     let before = less(column, 1);
     let mut line = [0u8; 16385];
     let n = put_line(ad::part(text, less(place, before), text.len()), &mut line);
-    say(out, ad::part(&line, 0, n));
-    byte(out, b'\n');
+    say(rt, out, ad::part(&line, 0, n));
+    byte(rt, out, b'\n');
     let blanks = [b' '; 16385];
-    say(out, ad::part(&blanks, 0, before));
-    say(out, b"^\n");
+    say(rt, out, ad::part(&blanks, 0, before));
+    say(rt, out, b"^\n");
 }
 
 // The rest of the line of a refusal with a place, and the text's line around it.
-fn located(out: &mut bool, text: &[u8], refusal: u8, place: usize) {
+fn located(rt: &HostRuntime, out: &mut bool, text: &[u8], refusal: u8, place: usize) {
     let p = positions::locate(text, place);
-    counted(out, b" (line ", p.line as u64);
-    counted(out, b", column ", p.column as u64);
-    say(out, b"): ");
-    phrase(out, text, refusal, place);
-    caret(out, text, place, p.column);
+    counted(rt, out, b" (line ", p.line as u64);
+    counted(rt, out, b", column ", p.column as u64);
+    say(rt, out, b"): ");
+    phrase(rt, out, text, refusal, place);
+    caret(rt, out, text, place, p.column);
 }
 
 // What is said behind the name of what is refused.
-pub fn refused(out: &mut bool, text: &[u8], refusal: u8, place: usize) {
-    counted(out, b": refused ", refusal as u64);
-    counted(out, b" at ", place as u64);
+pub fn refused(rt: &HostRuntime, out: &mut bool, text: &[u8], refusal: u8, place: usize) {
+    counted(rt, out, b": refused ", refusal as u64);
+    counted(rt, out, b" at ", place as u64);
     if has_place(refusal) {
-        located(out, text, refusal, place);
+        located(rt, out, text, refusal, place);
         return;
     }
-    say(out, b": ");
-    phrase(out, text, refusal, place);
+    say(rt, out, b": ");
+    phrase(rt, out, text, refusal, place);
 }

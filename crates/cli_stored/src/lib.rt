@@ -1,4 +1,5 @@
 // What a stored ad says of its definitions and references.
+#![tactic(auto)]
 
 // The root of a definition.
 #[derive(Drop)]

@@ -1,4 +1,6 @@
 // The list of a match, entry by entry.
+#![tactic(auto)]
+
 use cli_output::{byte, number, say};
 use printer::Printed;
 
@@ -15,18 +17,19 @@ pub fn entry_count(list: &[u64]) -> usize {
 }
 
 // The definition that a node belongs to, and its expression.
-fn node_line(out: &mut bool, words: &[u64], bytes: &[u8], node: usize) {
-    say(out, holders::definition_name(words, bytes, node));
-    say(out, b": ");
+fn node_line(rt: &HostRuntime, out: &mut bool, words: &[u64], bytes: &[u8], node: usize) {
+    say(rt, out, holders::definition_name(words, bytes, node));
+    say(rt, out, b": ");
     let mut text = [0u8; 16384];
     match inspection::expression(words, bytes, node, &mut text) {
-        Printed::Text(n) => say(out, ad::part(&text, 0, n)),
-        Printed::Refused(_, _) => say(out, b"(printed text over 16,384 bytes)"),
+        Printed::Text(n) => say(rt, out, ad::part(&text, 0, n)),
+        Printed::Refused(_, _) => say(rt, out, b"(printed text over 16,384 bytes)"),
     }
 }
 
 // One entry, 1,024 · side + node, the k-th of the list.
 fn entry<'a>(
+    rt: &HostRuntime,
     out: &mut bool,
     first: &[u64],
     first_bytes: &'a [u8],
@@ -38,21 +41,22 @@ fn entry<'a>(
 ) {
     let node = (place % 1024) as usize;
     let far = 1024 <= place;
-    number(out, k as u64);
+    number(rt, out, k as u64);
     if far {
-        say(out, b" second ");
-        node_line(out, second, second_bytes, node);
+        say(rt, out, b" second ");
+        node_line(rt, out, second, second_bytes, node);
     } else {
-        say(out, b" first ");
-        node_line(out, first, first_bytes, node);
+        say(rt, out, b" first ");
+        node_line(rt, out, first, first_bytes, node);
     }
-    say(out, b" -> ");
+    say(rt, out, b" -> ");
     let s = results::value_at(table, far, node);
-    cli_values::slot(out, s, first_bytes, second_bytes);
-    byte(out, b'\n');
+    cli_values::slot(rt, out, s, first_bytes, second_bytes);
+    byte(rt, out, b'\n');
 }
 
 pub fn entries<'a>(
+    rt: &HostRuntime,
     out: &mut bool,
     first: &[u64],
     first_bytes: &'a [u8],
@@ -69,6 +73,7 @@ pub fn entries<'a>(
         }
         i += 1;
         entry(
+            rt,
             out,
             first,
             first_bytes,

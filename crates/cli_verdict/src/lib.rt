@@ -1,4 +1,6 @@
 // The lines behind a match: the verdict with its reasons, the ranks and the steps.
+#![tactic(auto)]
+
 use cli_output::{byte, counted, say, side};
 use cli_stored::Found;
 use matching::Outcome;
@@ -21,6 +23,7 @@ fn is_true(s: Slot) -> bool {
 
 // An ad's Requirements, by its root, where it is not true or not there.
 fn reason<'a>(
+    rt: &HostRuntime,
     out: &mut bool,
     second: bool,
     requirements: Found,
@@ -29,21 +32,22 @@ fn reason<'a>(
     second_bytes: &'a [u8],
 ) {
     let Found::Root(node) = requirements else {
-        side(out, second);
-        say(out, b" ad has no Requirements\n");
+        side(rt, out, second);
+        say(rt, out, b" ad has no Requirements\n");
         return;
     };
     let slot = results::value_at(table, second, node);
     if is_true(slot) {
         return;
     }
-    side(out, second);
-    say(out, b" Requirements is ");
-    cli_values::slot(out, slot, first_bytes, second_bytes);
-    byte(out, b'\n');
+    side(rt, out, second);
+    say(rt, out, b" Requirements is ");
+    cli_values::slot(rt, out, slot, first_bytes, second_bytes);
+    byte(rt, out, b'\n');
 }
 
 fn verdict<'a>(
+    rt: &HostRuntime,
     out: &mut bool,
     matched: bool,
     first: &[u64; 4864],
@@ -53,30 +57,31 @@ fn verdict<'a>(
     table: &[u64],
 ) {
     if matched {
-        say(out, b"matched\n");
+        say(rt, out, b"matched\n");
         return;
     }
-    say(out, b"unmatched\n");
+    say(rt, out, b"unmatched\n");
     let x = cli_stored::find(first, first_bytes, b"Requirements");
     let y = cli_stored::find(second, second_bytes, b"Requirements");
-    reason(out, false, x, table, first_bytes, second_bytes);
-    reason(out, true, y, table, first_bytes, second_bytes);
+    reason(rt, out, false, x, table, first_bytes, second_bytes);
+    reason(rt, out, true, y, table, first_bytes, second_bytes);
 }
 
-fn ranks(out: &mut bool, first: u32, second: u32) {
-    counted(out, b"first rank ", first as u64);
-    counted(out, b"\nsecond rank ", second as u64);
-    byte(out, b'\n');
+fn ranks(rt: &HostRuntime, out: &mut bool, first: u32, second: u32) {
+    counted(rt, out, b"first rank ", first as u64);
+    counted(rt, out, b"\nsecond rank ", second as u64);
+    byte(rt, out, b'\n');
 }
 
-fn steps(out: &mut bool, done: usize, length: usize) {
-    counted(out, b"steps ", done as u64);
-    counted(out, b" of ", length as u64);
-    byte(out, b'\n');
+fn steps(rt: &HostRuntime, out: &mut bool, done: usize, length: usize) {
+    counted(rt, out, b"steps ", done as u64);
+    counted(rt, out, b" of ", length as u64);
+    byte(rt, out, b'\n');
 }
 
 // What a match gave, which left the table and a list of this length.
 pub fn outcome<'a>(
+    rt: &HostRuntime,
     out: &mut bool,
     outcome: Outcome,
     first: &[u64; 4864],
@@ -88,11 +93,12 @@ pub fn outcome<'a>(
 ) {
     match outcome {
         Outcome::Refused(k, p) => {
-            say(out, b"match");
-            cli_refusals::refused(out, b"", k, p);
+            say(rt, out, b"match");
+            cli_refusals::refused(rt, out, b"", k, p);
         }
         Outcome::Finished(matched, i, j, done, _) => {
             verdict(
+                rt,
                 out,
                 matched,
                 first,
@@ -101,12 +107,12 @@ pub fn outcome<'a>(
                 second_bytes,
                 table,
             );
-            ranks(out, i, j);
-            steps(out, done, length);
+            ranks(rt, out, i, j);
+            steps(rt, out, done, length);
         }
         Outcome::Unfinished(done, _) => {
-            say(out, b"not done\n");
-            steps(out, done, length);
+            say(rt, out, b"not done\n");
+            steps(rt, out, done, length);
         }
     }
 }

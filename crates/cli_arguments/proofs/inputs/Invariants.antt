@@ -1,5 +1,4 @@
-use Prim.Native.Nat.{◌-◌, ◌≤◌}
-use borrow.Author.Rules.{rules}
+use Rattle.std.proofs.Common.{◌-◌, ◌≤◌}
 use Rattle.cli_arguments.proofs.inputs.Given as goal
 
 abbrev pub invariant-loop-i : goal.invariant-loop-i

@@ -1,11 +1,8 @@
-use mathlib.Core.Path.{◌≡◌}
-use Prim.Native.Nat.{◌-◌}
-use lib.ListN.{length}
-use borrow.Author.Rules.{rules}
+use Rattle.std.proofs.Common.{length, ◌≡◌, ◌-◌}
 use Rattle.cli_refusals.proofs.put_line.Given as goal
 
 abbrev pub invariant-loop-n : goal.invariant-loop-n
-invariant-loop-n l = length l.room ≡ length l.initial.room
+invariant-loop-n l = length l.room ≡ length l.fn.room
 
 abbrev pub decreases-loop-n : goal.decreases-loop-n
-decreases-loop-n l = length l.initial.room - l.n
+decreases-loop-n l = length l.room - l.n

@@ -1,9 +1,5 @@
-use Prim.Native.Nat.{◌-◌}
-use borrow.Author.Rules.{rules}
+use Rattle.std.proofs.Common.{◌-◌}
 use Rattle.cli_stored.proofs.find.Given as goal
-
-abbrev pub invariant-loop-j : goal.invariant-loop-j
-invariant-loop-j l = Unit {0}
 
 abbrev pub decreases-loop-j : goal.decreases-loop-j
 decreases-loop-j l = 256 - l.j
