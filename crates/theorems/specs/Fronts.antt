@@ -1,6 +1,6 @@
 -- OF LENT MEMORY ONLY THE ROOM'S FRONT PART COUNTS: memory with the same front parts has the same matches. So an ad that is printed and
 -- read back, into any memory, matches as before. Assumes nothing.
-use Rattle.std.specs.Prelude.{ℕ, ◌<◌, ◌≤◌, ◌≡◌, refl, List, length, take, drop, ltb}
+use Rattle.std.specs.Prelude.{◌||◌, ℕ, ◌<◌, ◌≤◌, ◌≡◌, refl, List, length, take, drop, ltb}
 use Rattle.std.proofs.Math.Decide.{dec_lt}
 use Rattle.std.proofs.Common.{arith, sym, ap, ap₂, ◌∙◌, subst, length-take, take_at, le-ltb, lt-ltb}
 use Rattle.ad.specs.Layout.{ad_words, ad_bytes_room}

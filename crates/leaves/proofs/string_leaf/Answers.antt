@@ -1,3 +1,4 @@
+use Prim.Native.Nat.{◌+◌}
 use native.Mathlib.Omega.{arith}
 use mathlib.Core.Path.{refl, sym, ap}
 use Rattle.tokens.specs.Inner.Meaning.{string_at}

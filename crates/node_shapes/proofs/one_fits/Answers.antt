@@ -1,3 +1,4 @@
+use mathlib.Core.Bool.{◌&&◌}
 use lib.Dec.{leb}
 use mathlib.Core.Path.{◌∙◌, ap}
 use Rattle.lexemes.proofs.Laws.{ands}

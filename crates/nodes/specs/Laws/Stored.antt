@@ -1,5 +1,5 @@
 -- The nodes of a stored tree are evaluated as its literals, references and operators. Assumes nothing.
-use Rattle.std.specs.Prelude.{ℕ, ◌%◌, ◌^◌, ◌≤◌, ◌<◌, ◌≡◌, refl, Bool, true, false, cond, length, get_or}
+use Rattle.std.specs.Prelude.{◌&&◌, ℕ, ◌%◌, ◌^◌, ◌≤◌, ◌<◌, ◌≡◌, refl, Bool, true, false, cond, length, get_or}
 use Rattle.std.proofs.Common.{arith, ap, ap₂, lt-ltb, le-leb}
 use Rattle.syntax.specs.Bounds.{max_integer}
 use Rattle.syntax.specs.Tree.{Literal, undefined, error, boolean, integer, real, string, Scope, own, other}
