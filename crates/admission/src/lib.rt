@@ -19,7 +19,7 @@ pub enum Admission {
 }
 
 // Whether the lent memory is smaller than the room of two ads, of `room` numbers, of which `lent` are there, and of 2,048 entries.
-fn too_small(
+pub fn too_small(
     first_words: &[u64],
     first_bytes: &[u8],
     second_words: &[u64],

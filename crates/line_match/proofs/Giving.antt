@@ -7,7 +7,7 @@ use mathlib.Core.List.{List}
 use lib.ListN.{length, take, drop, length-drop}
 use lib.Seq.{take_all}
 use Rattle.lines.specs.Lines.{ad, entry_of, up_to}
-use Rattle.lines.specs.Laws.Cutting.{up_to_short, no_tab, behind_tab}
+use Rattle.lines.proofs.Laws.Cutting.{up_to_short, no_tab, behind_tab}
 use Rattle.syntax.specs.Reader.{read, denied}
 use Rattle.ad.specs.Layout.{stored_words}
 use Rattle.matching.specs.Matching.{Match}

@@ -1,4 +1,3 @@
 pub mod Lines
 pub mod Examples
 pub mod Inner
-pub mod Laws

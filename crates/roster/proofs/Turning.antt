@@ -7,17 +7,17 @@ use mathlib.Core.List.{List}
 use lib.ListN.{length, drop}
 use lib.Seq.{sets, length-sets}
 use Rattle.lines.specs.Lines.{lines_of, up_to}
-use Rattle.lines.specs.Laws.Cutting.{found_inside, behind_later}
+use Rattle.lines.proofs.Laws.Cutting.{found_inside, behind_later}
 use Rattle.links.specs.declared.Counts.{Counts}
 use Rattle.matching.specs.declared.Outcome.{Outcome}
 use Rattle.line_match.specs.Inner.Asked.{LineRoom}
 use Rattle.tally.specs.declared.Report.{Report}
 use Rattle.tally.specs.Tally.{row_of}
 use Rattle.tally.specs.Inner.Counting.{Few}
-use Rattle.tally.specs.Laws.Totals.{tallied_few}
+use Rattle.tally.proofs.Laws.Totals.{tallied_few}
 use Rattle.roster.specs.Roster.{max_lines, rows_words}
 use Rattle.roster.specs.Inner.Progress.{Reached}
-use Rattle.roster.specs.Laws.Lines.{room_left}
+use Rattle.roster.proofs.Laws.Lines.{room_left}
 
 -- what holds at the loop's test: w, c, table and list are the working memory
 pub record Turning (v b : List ℕ) (counts : Counts) (s w c table list rows : List ℕ) (r : Report) (at : ℕ) : Type 0 where

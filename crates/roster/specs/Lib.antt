@@ -1,3 +1,2 @@
 pub mod Roster
 pub mod Inner
-pub mod Laws

@@ -1,6 +1,6 @@
 -- What the outcomes of a roster come to: the words of each, and the report. Assumes nothing.
 use Rattle.std.specs.Prelude.{ℕ, ◌+◌, Bool, true, false, cond, not, List, [], ◌∷◌, ◌++◌, length}
-use Rattle.matching.specs.Outcomes.{outcome_numbers}
+use Rattle.c_outcomes.specs.Outcomes.{outcome_numbers}
 use Rattle.matching.specs.declared.Outcome.{Outcome}
 use Rattle.matching.specs.declared.Outcome.TheVariants.{Refused, Finished, Unfinished}
 use Rattle.tally.specs.declared.Report.{Report}
@@ -8,7 +8,7 @@ use Rattle.tally.specs.declared.Report.{Report}
 -- where a refused line breaks a rule
 abbrev pub place_of : Outcome → ℕ
 place_of (Refused k p) = p
-place_of (Finished c) = 0
+place_of (Finished matched i j steps count) = 0
 place_of (Unfinished steps count) = 0
 
 -- the eight words of an outcome: the numbers of a match's answer, then the place of a refusal
@@ -22,23 +22,23 @@ rows_of (o ∷ os) = row_of o ++ rows_of os
 
 abbrev pub is_matched : Outcome → Bool
 is_matched (Refused k p) = false
-is_matched (Finished c) = c.matched
+is_matched (Finished matched i j steps count) = matched
 is_matched (Unfinished steps count) = false
 
 abbrev pub is_unmatched : Outcome → Bool
 is_unmatched (Refused k p) = false
-is_unmatched (Finished c) = not c.matched
+is_unmatched (Finished matched i j steps count) = not matched
 is_unmatched (Unfinished steps count) = false
 
 abbrev pub is_refused : Outcome → Bool
 is_refused (Refused k p) = true
-is_refused (Finished c) = false
+is_refused (Finished matched i j steps count) = false
 is_refused (Unfinished steps count) = false
 
 -- what an outcome adds to the sum of ranks
 abbrev pub job_rank : Outcome → ℕ
 job_rank (Refused k p) = 0
-job_rank (Finished c) = cond c.matched c.first_rank 0
+job_rank (Finished matched i j steps count) = cond matched i 0
 job_rank (Unfinished steps count) = 0
 
 -- a number of each outcome, summed

@@ -28,7 +28,7 @@ fn place_of(outcome: Outcome) -> u64
 {
     match outcome {
         Outcome::Refused(_, p) => p as u64,
-        Outcome::Finished(_) => 0,
+        Outcome::Finished(_, _, _, _, _) => 0,
         Outcome::Unfinished(_, _) => 0,
     }
 }
@@ -38,7 +38,7 @@ pub fn store_row(rows: &mut [u64], i: usize, outcome: Outcome)
     requires { 8 * i + 8 ≤ length rows.old }
     ensures { rows.new ≡ sets rows.old (8 * i) (row_of outcome) }
 {
-    let row = outcomes::outcome_numbers(outcome);
+    let row = c_outcomes::outcome_numbers(outcome);
     let at = ROW * i;
     rows[at] = row[0];
     rows[at + 1] = row[1];
@@ -63,14 +63,14 @@ pub fn counted(report: Report, outcome: Outcome) -> Report
             refused: report.refused + 1,
             rank_sum: report.rank_sum,
         },
-        Outcome::Finished(c) => {
-            if c.matched {
+        Outcome::Finished(matched, first_rank, _, _, _) => {
+            if matched {
                 return Report {
                     lines: report.lines + 1,
                     matched: report.matched + 1,
                     unmatched: report.unmatched,
                     refused: report.refused,
-                    rank_sum: report.rank_sum + c.first_rank as u64,
+                    rank_sum: report.rank_sum + first_rank as u64,
                 };
             }
             Report {

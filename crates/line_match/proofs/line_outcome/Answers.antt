@@ -1,4 +1,3 @@
-use borrow.Author.Rules.{rules}
 use native.Mathlib.Omega.{arith}
 use Prim.Native.Nat.{◌+◌}
 use Rattle.line_match.proofs.Reading.{was_refused, was_accepted}
@@ -11,7 +10,7 @@ returns-then-line-tab c = line_untabbed c.find-tab.ensures c.if-line-tab.true
 pub match_formed-requires : goal.match_formed-requires
 match_formed-requires c = (
   c.requires.job,
-  (was_accepted c.requires.words c.requires.bytes c.read.ensures c.in-Accepted.is).decreases,
+  (was_accepted c.requires.words c.requires.bytes c.read.ensures c.in-Accepted.is).measured,
   c.requires.values,
   c.requires.entries,
 )

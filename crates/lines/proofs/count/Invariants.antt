@@ -1,10 +1,7 @@
-use borrow.Author.Rules.{rules}
-use native.Mathlib.Omega.{arith}
 use Prim.Native.Nat.{suc, ◌+◌, ◌-◌, ◌≤◌}
-use mathlib.Core.Path.{◌≡◌, sym, ap}
-use lib.ListN.{length, take}
+use mathlib.Core.Path.{◌≡◌}
+use lib.ListN.{take}
 use Rattle.lines.specs.Inner.Feeds.{feeds_in}
-use Rattle.lines.proofs.Counting.{no_feeds, first_few, block_fed, no_lines, lines_fed}
 use Rattle.lines.proofs.count.Given as goal
 
 abbrev pub invariant-loop-i : goal.invariant-loop-i

@@ -1,8 +1,5 @@
 use borrow.Author.Rules.{rules}
-use Prim.Native.Nat.{◌+◌, ◌-◌, ◌≤◌}
-use mathlib.Core.Path.{◌≡◌, sym, ◌∙◌}
-use lib.ListN.{length, drop}
-use Rattle.lines.specs.Lines.{up_to}
+use mathlib.Core.Path.{sym, ◌∙◌}
 use Rattle.lines.proofs.Finding.{passed, found, ended}
 use Rattle.lines.proofs.find.Goals as goal
 

@@ -1,9 +1,6 @@
 use borrow.Author.Rules.{rules}
 use native.Mathlib.Omega.{arith}
-use Prim.Native.Nat.{◌+◌, ◌-◌, ◌≤◌}
-use mathlib.Core.Path.{◌≡◌, refl, ◌∙◌}
-use lib.ListN.{length, drop}
-use Rattle.lines.specs.Lines.{up_to}
+use mathlib.Core.Path.{refl, ◌∙◌}
 use Rattle.lines.proofs.Finding.{block_passed}
 use Rattle.lines.proofs.skip.Goals as goal
 

@@ -1,10 +1,7 @@
-use borrow.Author.Rules.{rules}
-use native.Mathlib.Omega.{arith}
 use Prim.Native.Nat.{◌+◌, ◌-◌, ◌≤◌}
-use mathlib.Core.Path.{◌≡◌, refl, ◌∙◌}
+use mathlib.Core.Path.{◌≡◌}
 use lib.ListN.{length, drop}
 use Rattle.lines.specs.Lines.{up_to}
-use Rattle.lines.proofs.Finding.{block_passed}
 use Rattle.lines.proofs.skip.Given as goal
 
 abbrev pub invariant-loop-i : goal.invariant-loop-i

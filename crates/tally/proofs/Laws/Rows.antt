@@ -11,7 +11,7 @@ use Rattle.tally.specs.Tally.{row_of, rows_of}
 
 pub row_length : (o : Outcome) → length (row_of o) ≡ 8
 row_length (Refused k p) = refl
-row_length (Finished c) = refl
+row_length (Finished matched i j steps count) = refl
 row_length (Unfinished steps count) = refl
 
 pub rows_length_lem : (os : List Outcome) → length (rows_of os) ≡ 8 * length os

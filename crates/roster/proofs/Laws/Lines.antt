@@ -4,15 +4,15 @@ use Rattle.std.proofs.Common.{sym, ap, ◌∙◌, subst, append_assoc, append-ni
 use Prim.Native.Char.{code}
 use Rattle.std.proofs.lemmas.List.Edits.{sets}
 use Rattle.lines.specs.Lines.{lines_of, up_to}
-use Rattle.lines.specs.Laws.Cutting.{found_inside, behind_later, lines_from}
+use Rattle.lines.proofs.Laws.Cutting.{found_inside, behind_later, lines_from}
 use Rattle.ad.specs.Layout.{padded}
 use Rattle.matching.specs.declared.Outcome.{Outcome}
 use Rattle.line_match.specs.LineMatch.{LineLeaves, LineGives}
 use Rattle.tally.specs.declared.Report.{Report}
 use Rattle.tally.specs.Tally.{row_of, rows_of}
 use Rattle.tally.specs.Inner.Counting.{Plus}
-use Rattle.tally.specs.Laws.Totals.{tallied_more, tallied_report, tallied_none}
-use Rattle.tally.specs.Laws.Rows.{rows_stored}
+use Rattle.tally.proofs.Laws.Totals.{tallied_more, tallied_report, tallied_none}
+use Rattle.tally.proofs.Laws.Rows.{rows_stored}
 use Rattle.roster.specs.Roster.{max_lines, rows_words, Give, none, next}
 use Rattle.roster.specs.Inner.Progress.{Listed, Reached}
 
