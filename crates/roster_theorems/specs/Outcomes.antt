@@ -16,7 +16,7 @@ use Rattle.matching.specs.declared.Conclusion.{Conclusion}
 use Rattle.matching.specs.declared.Outcome.{Outcome}
 use Rattle.matching.specs.declared.Outcome.TheVariants.{Refused, Finished}
 use Rattle.text_theorems.specs.Reading.{read_formed}
-use Rattle.theorems.specs.Listing.{match_list}
+use Rattle.theorems.proofs.Listing.{match_list}
 use Rattle.line_match.specs.LineMatch.{LineLeaves, untabbed, refused, matched, LineGives, line_budget}
 use Rattle.tally.specs.Tally.{is_matched, is_unmatched, is_refused, job_rank, total, many}
 use Rattle.roster.specs.Roster.{Give, none, next}

@@ -1,2 +1,10 @@
+pub mod Listing
+pub mod Existing
+pub mod Texts
+pub mod Exchanging
+pub mod Exchanged
+pub mod Answering
+pub mod Continuing
+pub mod Fronts
 pub mod Statements
 pub mod Laws

@@ -83,14 +83,16 @@ use Rattle.trees.specs.Values.{ad_of, Returns, Means, Same, Worths, Part, FromLi
 use Rattle.trees.proofs.Theorems as trees
 use Rattle.theorems.specs.Listing.{steps_of, count_of}
 use Rattle.text_theorems.specs.Reading as readings
-use Rattle.theorems.specs.Texts as texts
-use Rattle.theorems.specs.Texts.{AllShow, worked_shown, fault_shown}
-use Rattle.theorems.specs.Exchanging as exchanging
+use Rattle.theorems.proofs.Texts as texts
+use Rattle.theorems.specs.Texts.{AllShow}
+use Rattle.theorems.proofs.Texts.{worked_shown, fault_shown}
+use Rattle.theorems.proofs.Exchanging as exchanging
+use Rattle.theorems.proofs.Exchanged as exchanged
 use Rattle.theorems.specs.Exchanging.{Turns, short}
 use Rattle.text_theorems.specs.Printing as printing
-use Rattle.theorems.specs.Answering as answering
-use Rattle.theorems.specs.Continuing as continuing
-use Rattle.theorems.specs.Fronts as fronts
+use Rattle.theorems.proofs.Answering as answering
+use Rattle.theorems.proofs.Continuing as continuing
+use Rattle.theorems.proofs.Fronts as fronts
 use Rattle.theorems.proofs.Laws.Calls as calls
 
 -- ==== What an ad is here
@@ -356,7 +358,7 @@ pub finished_is_one : {words₁ bytes₁ words₂ bytes₂ : List ℕ} {budget b
     Matched words₁ bytes₁ words₂ bytes₂ budget table list table' list' (outcome.Finished verdict rank₁ rank₂ steps count) →
     Matched words₁ bytes₁ words₂ bytes₂ budget' table₂ list₂ table₂' list₂' (outcome.Finished verdict' rank₁' rank₂' steps' count') →
     outcome.Finished verdict rank₁ rank₂ steps count ≡ outcome.Finished verdict' rank₁' rank₂' steps' count'
-finished_is_one {count = count} {count' = count'} m m' = exchanging.matched_finished m m' (count, refl) (count', refl)
+finished_is_one {count = count} {count' = count'} m m' = exchanged.matched_finished m m' (count, refl) (count', refl)
 
 -- With the two ads exchanged a finished match keeps its verdict, the ranks change places, and the steps are as many: in any memory, and
 -- with any two budgets that finish.
@@ -364,7 +366,7 @@ pub exchange : {words₁ bytes₁ words₂ bytes₂ : List ℕ} {budget budget' 
     Matched words₁ bytes₁ words₂ bytes₂ budget table list table' list' (outcome.Finished verdict rank₁ rank₂ steps count) →
     Matched words₂ bytes₂ words₁ bytes₁ budget' table₂ list₂ table₂' list₂' (outcome.Finished verdict' rank₁' rank₂' steps' count') →
     (verdict' ≡ verdict) × (rank₁' ≡ rank₂) × (rank₂' ≡ rank₁) × (steps' ≡ steps)
-exchange {count = count} {count' = count'} m m' = let x = exchanging.matched_exchange_finished m m' (count, refl) (count', refl) in (x.kept, x.first, x.second, x.as_many)
+exchange {count = count} {count' = count'} m m' = let x = exchanged.matched_exchange_finished m m' (count, refl) (count', refl) in (x.kept, x.first, x.second, x.as_many)
 
 -- With one budget, two matches of the same memory with the ads exchanged are refused alike, or both finished, or both unfinished after as
 -- many steps.
@@ -419,7 +421,7 @@ module _ {text₁ text₂ old_words₁ old_bytes₁ old_words₂ old_bytes₂ wo
   -- With the two ads exchanged, and the same budget, both finish with one verdict and the ranks exchanged, or neither does.
   pub texts_exchange : {table₂ list₂ table₂' list₂' : List ℕ} {result' : Outcome} → 4096 ≤ length table₂ → 2048 ≤ length list₂ →
       Matched words₂ bytes₂ words₁ bytes₁ budget table₂ list₂ table₂' list₂' result' → Exchanged result result'
-  texts_exchange table_room₂ list_room₂ match₂ = exchanging.accepted_exchange call₁ call₂ table_room list_room table_room₂ list_room₂ match match₂
+  texts_exchange table_room₂ list_room₂ match₂ = exchanged.accepted_exchange call₁ call₂ table_room list_room table_room₂ list_room₂ match match₂
 
 -- Verdict, ranks, steps and the count of moves are functions of the two texts: the budget decides only whether the match is finished, and
 -- the memory decides nothing. '.. answers verdict, both ranks and steps, otherwise the steps done.'

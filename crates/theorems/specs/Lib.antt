@@ -2,6 +2,4 @@ pub mod Listing
 pub mod Existing
 pub mod Texts
 pub mod Exchanging
-pub mod Answering
-pub mod Continuing
 pub mod Fronts

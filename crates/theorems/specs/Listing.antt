@@ -1,19 +1,7 @@
 -- THE LIST OF A MATCH: no entry stands twice, and there are no more entries than the two ads have nodes. So no match takes more steps
 -- than that, and a budget of 2,048 is always enough. Assumes nothing.
-use Rattle.std.specs.Prelude.{ℕ, ◌+◌, ◌≤◌, ◌<◌, min, ◌≡◌, Bool, List, length, take}
-use Rattle.std.proofs.Math.Decide.{dec_lt}
-use Rattle.std.proofs.Common.{arith, sym, ap, ◌∙◌, subst}
-use Rattle.ad.specs.Layout.{ad_words}
-use Rattle.ad.specs.Stored.{node_count}
+use Rattle.std.specs.Prelude.{ℕ, ◌≤◌, min, ◌≡◌, Bool, List, length}
 use Rattle.graph.specs.Members.{Distinct}
-use Rattle.graph.proofs.Laws.Traversal.{TheList, the_list}
-use Rattle.links.specs.Pair.{pair_graph}
-use Rattle.links.specs.Inner.Asked.{Formed}
-use Rattle.links.specs.Laws.Counting.{nodes_few}
-use Rattle.links.specs.Laws.Numbering.{pair_size}
-use Rattle.links.specs.Laws.Soundness.{pair_sound}
-use Rattle.matching.specs.Matching.{Match, Matched, refused, matches}
-use Rattle.admission.specs.Laws.Wells.{formed_of}
 use Rattle.matching.specs.declared.Outcome.{Outcome}
 use Rattle.matching.specs.declared.Outcome.TheVariants.{Refused, Finished, Unfinished}
 
@@ -53,46 +41,6 @@ pub record Listed (n budget : ℕ) (order : List ℕ) (count : ℕ) (r : Outcome
   -- so a budget of 2,048 covers every list
   pub always : 2048 ≤ budget → Done (length order) count r
 
--- OF EVERY MATCH of two well-formed ads
-pub match_list : {v b w c : List ℕ} {budget : ℕ} {table list : List ℕ} {r : Outcome} → Formed v → Formed w → (m : Match v b w c budget table list r) →
-    Listed (node_count v + node_count w) budget m.order m.count r
-match_list {v} {b} {w} {c} {budget} {table} {list} {r} f g m = record {
-  once = subst Distinct (sym is_it) it.once;
-  short = few;
-  room = small;
-  steps = steps;
-  few_steps = let e = steps in let l = few in omega arith;
-  finishes = λ h. let l = few in done (omega arith);
-  always = λ h. let l = small in done (omega arith);
-}
-  where
-    it : TheList (pair_graph v b w c)
-    it = the_list (pair_graph v b w c) (pair_sound v b w c f g)
-
-    is_it : m.order ≡ it.list
-    is_it = it.only m.order (m.circular, m.flagged, m.entered)
-
-    few : length m.order ≤ node_count v + node_count w
-    few = let e = ap length is_it in let s = it.short in let z = pair_size v b w c in omega arith
-
-    small : length m.order ≤ 2048
-    small = let l = few in let p = nodes_few v in let q = nodes_few w in omega arith
-
-    done : length m.order ≤ budget → Done (length m.order) m.count r
-    done h =
-        let k = m.finished h in
-        record { verdict = _; first_rank = _; second_rank = _; answers = k.answers }
-
-    steps : steps_of r ≡ min budget (length m.order)
-    steps = go (dec_lt budget (length m.order))
-      where
-        go : Dec (budget < length m.order) → steps_of r ≡ min budget (length m.order)
-        go (yes h) = ap steps_of (m.unfinished h) ∙ (let z : budget ≡ min budget (length m.order) = omega arith in z)
-        go (no h) =
-            let h' : ¬ (budget < length m.order) = h in
-            let l : length m.order ≤ budget = omega arith in
-            ap steps_of (m.finished l).answers ∙ (let z : length m.order ≡ min budget (length m.order) = omega arith in z)
-
 -- an answer that is no refusal, of two ads that have n nodes together
 pub record Within (n budget : ℕ) (r : Outcome) : Type 0 where
   -- 'its count being the steps'
@@ -101,20 +49,3 @@ pub record Within (n budget : ℕ) (r : Outcome) : Type 0 where
   -- 'A budget not below the list's length covers it; the match is then finished'
   pub finishes : n ≤ budget → Done (steps_of r) (count_of r) r
   pub always : 2048 ≤ budget → Done (steps_of r) (count_of r) r
-
--- OF EVERY MATCH IN ANY MEMORY that is not refused
-pub matched_list : {v b w c : List ℕ} {budget : ℕ} {table list table' list' : List ℕ} {r : Outcome} → Matched v b w c budget table list table' list' r → ((k p : ℕ) → r ≡ Refused k p → ⊥) →
-    Within (node_count (take ad_words v) + node_count (take ad_words w)) budget r
-matched_list (refused e a t l) u = absurd (u _ 0 a)
-matched_list {v} {b} {w} {c} {budget} {r = r} (matches e values entries m t l) u =
-    let x = match_list (formed_of v b e.first_well) (formed_of w c e.second_well) m in
-    record {
-      few_steps = x.few_steps;
-      in_budget = let s = x.steps in omega arith;
-      finishes = λ k. counted (x.finishes k);
-      always = λ k. counted (x.always k);
-    }
-  where
-    counted : {n k : ℕ} → Done n k r → Done (steps_of r) (count_of r) r
-    counted {n} {k} d =
-        subst (λ (y : ℕ). Done (steps_of r) y r) (sym (ap count_of d.answers)) (subst (λ (x : ℕ). Done x k r) (sym (ap steps_of d.answers)) d)

@@ -1,25 +1,17 @@
 -- WHAT READING LEAVES AND A MATCH FINDS, from two texts: the match is that of the trees read, and document 01's worked examples hold of
 -- what `read` and `match_ads` leave. Assumes nothing.
-use Rattle.std.specs.Prelude.{ℕ, suc, ◌+◌, ◌-◌, ◌≤◌, ◌≡◌, refl, Bool, List, [], ◌∷◌, ◌++◌, map, length, take, drop, replicate}
-use Rattle.std.proofs.Common.{ap, ap₂, ◌∙◌, subst}
+use Rattle.std.specs.Prelude.{ℕ, suc, ◌+◌, ◌-◌, ◌≤◌, ◌≡◌, Bool, List, [], ◌∷◌, ◌++◌, map, length, drop, replicate}
 use Rattle.links.specs.Pair.{pair_slots}
-use Rattle.syntax.specs.Tree.{Ad, nodes}
+use Rattle.syntax.specs.Tree.{Ad}
 use Rattle.syntax.specs.Reader as R
-use Rattle.ad.specs.Layout.{ad_words, stored_words, stored_bytes}
-use Rattle.ad.specs.Stored.{node_count}
+use Rattle.ad.specs.Layout.{stored_words, stored_bytes}
 use Rattle.printer.specs.Prints.{Roomy}
 use Rattle.ad_reader.specs.declared.Answer.{Answer}
-use Rattle.ad_reader.specs.declared.Answer.TheVariants.{Accepted}
 use Rattle.reader.specs.Content.{Answered}
-use Rattle.matching.specs.Matching.{Match, Matched, refused, matches, table_words}
+use Rattle.matching.specs.Matching.{Match, Matched, table_words}
 use Rattle.matching.specs.declared.Outcome.{Outcome}
-use Rattle.matching.specs.declared.Outcome.TheVariants.{Refused}
-use Rattle.acceptance.specs.Acceptance.{read_matches}
-use Rattle.worked.specs.Table.{Row, Comes, Holds, AllHold, table, fault}
-use Rattle.worked.proofs.Examples.{worked, fault_unmatched}
-use Rattle.theorems.specs.Listing.{Within, matched_list}
-use Rattle.theorems.specs.Existing.{answer_at, answer_exists}
-use Rattle.text_theorems.specs.Reading.{ReadAs, read_answered, accepted_tree, read_formed, front_words, front_bytes, front_nodes}
+use Rattle.worked.specs.Table.{Row, Comes, table}
+use Rattle.theorems.specs.Existing.{answer_at}
 
 -- a match of the trees a and e, in memory: table' and list' are what is left of table and list. 'Memory lent beyond these sizes is never
 -- changed.'
@@ -38,53 +30,6 @@ pub record TextsMatch (s t : List ℕ) (budget : ℕ) (table list table' list' :
   pub second_read : R.read t ≡ R.accepted second
   pub trees : TreesMatch first second budget table list table' list' r
 
-pub match_cast : {v b w c v' b' w' c' : List ℕ} {budget : ℕ} {table list : List ℕ} {r : Outcome} → v ≡ v' → b ≡ b' → w ≡ w' → c ≡ c' → Match v b w c budget table list r → Match v' b' w' c' budget table list r
-match_cast {v} {b} {w} {c} {v'} {b'} {w'} {c'} {budget} {table} {list} {r} p q i j m =
-    subst (λ (z : List ℕ). Match z b' w' c' budget table list r) p
-    (subst (λ (z : List ℕ). Match v z w' c' budget table list r) q
-    (subst (λ (z : List ℕ). Match v b z c' budget table list r) i
-    (subst (λ (z : List ℕ). Match v b w z budget table list r) j m)))
-
--- THE MATCH IS THAT OF THE TREES that were read
-pub trees_match : {s t v₀ b₀ w₀ c₀ v b w c : List ℕ} {x y : Answer} {a e : Ad} {budget : ℕ} {table list table' list' : List ℕ} {r : Outcome} →
-    ReadAs s v₀ b₀ v b x a → ReadAs t w₀ c₀ w c y e → Matched v b w c budget table list table' list' r → ((k p : ℕ) → r ≡ Refused k p → ⊥) → TreesMatch a e budget table list table' list' r
-trees_match x y (refused o q t l) u = absurd (u _ 0 q)
-trees_match x y (matches o values entries m t l) u = record {
-  values = values;
-  entries = entries;
-  is_match = match_cast (front_words x) (front_bytes x) (front_words y) (front_bytes y) m;
-  table_is = t;
-  list_is = l;
-}
-
--- TWO TEXTS THAT ARE ACCEPTED: the match of what reading left is that of the trees that they read as
-pub texts_match : {s t v₀ b₀ w₀ c₀ v b w c : List ℕ} {d n d' n' budget : ℕ} {table list table' list' : List ℕ} {r : Outcome} →
-    Answered s v₀ b₀ v b (Accepted d n) → Answered t w₀ c₀ w c (Accepted d' n') → table_words ≤ length table → pair_slots ≤ length list →
-    Matched v b w c budget table list table' list' r → TextsMatch s t budget table list table' list' r
-texts_match x y h l m =
-    let p = accepted_tree x in
-    let q = accepted_tree y in
-    record { first = p.0; second = q.0; first_read = p.1.reads; second_read = q.1.reads; trees = trees_match p.1 q.1 m (read_matches x y h l m) }
-
--- the trees are those that the texts read as
-pub of_trees : {s t : List ℕ} {a e : Ad} {budget : ℕ} {table list table' list' : List ℕ} {r : Outcome} → R.read s ≡ R.accepted a → R.read t ≡ R.accepted e →
-    TextsMatch s t budget table list table' list' r → TreesMatch a e budget table list table' list' r
-of_trees {a = a} {e} {budget} {table} {list} {table'} {list'} {r} p q m =
-    let i : m.first ≡ a = cc m.first_read in
-    let j : m.second ≡ e = cc m.second_read in
-    subst (λ (x : Ad). TreesMatch x e budget table list table' list' r) i (subst (λ (x : Ad). TreesMatch m.first x budget table list table' list' r) j m.trees)
-
--- and it takes no more steps than the texts have nodes, so that a budget of as many, or of 2,048, is always enough
-pub texts_list : {s t v₀ b₀ w₀ c₀ v b w c : List ℕ} {d n d' n' budget : ℕ} {table list table' list' : List ℕ} {r : Outcome} →
-    Answered s v₀ b₀ v b (Accepted d n) → Answered t w₀ c₀ w c (Accepted d' n') → table_words ≤ length table → pair_slots ≤ length list →
-    Matched v b w c budget table list table' list' r → Within (n + n') budget r
-texts_list {v = v} {w = w} {n = n} {n' = n'} {budget = budget} {r = r} x y h l m =
-    let p = accepted_tree x in
-    let q = accepted_tree y in
-    let i : node_count (take ad_words v) ≡ n = front_nodes p.1 ∙ (let z : nodes p.0 ≡ n = cc p.1.answers in z) in
-    let j : node_count (take ad_words w) ≡ n' = front_nodes q.1 ∙ (let z : nodes q.0 ≡ n' = cc q.1.answers in z) in
-    subst (λ (k : ℕ). Within k budget r) (ap₂ ◌+◌ i j) (matched_list m (read_matches x y h l m))
-
 -- the answer of two texts: their verdict, ranks, steps and moves, neither memory nor budget being given
 pub record TextsAnswer (s t : List ℕ) : Type 0 where
   pub verdict : Bool
@@ -94,24 +39,6 @@ pub record TextsAnswer (s t : List ℕ) : Type 0 where
   pub count : ℕ
   pub has_match : (budget : ℕ) (table list : List ℕ) → (table' list' : List ℕ) × TextsMatch s t budget table list table' list' (answer_at verdict first_rank second_rank steps count budget)
   pub only : {budget : ℕ} {table list table' list' : List ℕ} {r : Outcome} → TextsMatch s t budget table list table' list' r → r ≡ answer_at verdict first_rank second_rank steps count budget
-
--- VERDICT, RANKS, STEPS AND MOVES ARE FUNCTIONS OF THE TWO TEXTS
-pub texts_answer : {s t : List ℕ} {a e : Ad} → R.read s ≡ R.accepted a → R.read t ≡ R.accepted e → TextsAnswer s t
-texts_answer {s} {t} {a} {e} p q =
-    let x = answer_exists (stored_words a) (stored_bytes a) (stored_words e) (stored_bytes e) (read_formed s a p) (read_formed t e q) in
-    record {
-      verdict = x.verdict;
-      first_rank = x.first_rank;
-      second_rank = x.second_rank;
-      steps = x.steps;
-      count = x.count;
-      has_match = λ budget table list.
-          let y = x.has_match budget in
-          let m : TreesMatch a e budget table list (y.0 ++ drop table_words table) (y.1 ++ drop pair_slots list) (answer_at x.verdict x.first_rank x.second_rank x.steps x.count budget) =
-          record { values = y.0; entries = y.1; is_match = y.2; table_is = refl; list_is = refl } in
-          (y.0 ++ drop table_words table, y.1 ++ drop pair_slots list, record { first = a; second = e; first_read = p; second_read = q; trees = m });
-      only = λ m. x.only (of_trees p q m).is_match;
-    }
 
 -- ---- the worked examples
 
@@ -134,38 +61,3 @@ pub record Shows (row : Row) : Type 0 where
 unfoldable pub AllShow : List Row → Type 0
 AllShow [] = Unit {0}
 AllShow (r ∷ rs) = Shows r × AllShow rs
-
-module _ (row : Row) (h : Holds row) where
-  row_shown : {v₀ b₀ w₀ c₀ v b w c : List ℕ} {x y : Answer} {budget : ℕ} {table list table' list' : List ℕ} {r : Outcome} → Roomy v₀ b₀ → Roomy w₀ c₀ →
-      Answered row.first v₀ b₀ v b x → Answered row.second w₀ c₀ w c y → table_words ≤ length table → pair_slots ≤ length list →
-      Matched v b w c budget table list table' list' r → Shown row budget table list table' list' r
-  row_shown {v₀} {b₀} {w₀} {c₀} {v} {b} {w} {c} {list = list} p q x y i j m =
-      let a = read_answered h.first_ad p h.first_read x in
-      let e = read_answered h.second_ad q h.second_read y in
-      let x' = subst (λ (z : Answer). Answered row.first v₀ b₀ v b z) a.answers x in
-      let y' = subst (λ (z : Answer). Answered row.second w₀ c₀ w c z) e.answers y in
-      let t = trees_match a e m (read_matches x' y' i j m) in
-      let k = h.comes t.is_match in
-      record {
-        first = h.first_ad;
-        second = h.second_ad;
-        trees = t;
-        comes = k;
-        listed = t.list_is ∙ ap (λ (l : List ℕ). l ++ drop pair_slots list) (t.is_match.listed ∙ ap (λ (l : List ℕ). map suc l ++ replicate (2048 - length l) 0) k.lists);
-      }
-
-  row_shows : Shows row
-  row_shows = record { shows = row_shown }
-
-all_show : (rs : List Row) → AllHold rs → AllShow rs
-unfolding AllHold AllShow
-all_show [] h = tt
-all_show (r ∷ rs) h = (row_shows r h.0, all_show rs h.1)
-
--- W1 TO W12 HOLD OF WHAT `read` AND `match_ads` LEAVE
-pub worked_shown : AllShow table
-worked_shown = all_show table worked
-
--- AND SO DOES THE FAULT of the matcher before ours: a missing PulseWidth, negated, does not match
-pub fault_shown : Shows fault
-fault_shown = row_shows fault fault_unmatched

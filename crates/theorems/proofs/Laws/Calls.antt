@@ -46,10 +46,12 @@ use Rattle.trees.specs.Nodes.{last_of}
 use Rattle.trees.specs.Links.{tree_graph}
 use Rattle.trees.specs.Values.{ad_of, Means, Worths, Part}
 use Rattle.trees.proofs.Theorems.{graph_is, list_is, entry_is, answer_is}
-use Rattle.theorems.specs.Listing.{steps_of, count_of, match_list}
+use Rattle.theorems.specs.Listing.{steps_of, count_of}
+use Rattle.theorems.proofs.Listing.{match_list}
 use Rattle.text_theorems.specs.Reading.{ReadAs, accepted_tree, read_formed, tree_holds, front_words, front_bytes, front_nodes}
-use Rattle.theorems.specs.Texts.{TreesMatch, trees_match}
-use Rattle.theorems.specs.Exchanging.{covers}
+use Rattle.theorems.specs.Texts.{TreesMatch}
+use Rattle.theorems.proofs.Texts.{trees_match}
+use Rattle.theorems.proofs.Exchanging.{covers}
 
 -- ---- reading
 

@@ -23,7 +23,7 @@ use Rattle.admission.specs.Admission.{Well, no_room, first_malformed, second_mal
 use Rattle.admission.specs.Laws.Wells.{formed_of}
 use Rattle.matching.specs.declared.Outcome.{Outcome}
 use Rattle.matching.specs.declared.Outcome.TheVariants.{Refused}
-use Rattle.theorems.specs.Existing.{match_exists}
+use Rattle.theorems.proofs.Existing.{match_exists}
 
 apart : {A : Type 0} → true ≡ false → A
 apart e = let z : ◌≡◌ {A = ℕ} 0 1 = cc in absurd (omega arith)
