@@ -12,7 +12,6 @@ use Rattle.values.specs.declared.Value.TheVariants.{Undefined, Error, Boolean, I
 use Rattle.verdict.specs.Verdict.{rank_of}
 use Rattle.matching.specs.Matching.{Match}
 use Rattle.matching.proofs.Laws.OneAnswer.{match_one}
-use Rattle.matching.specs.declared.Conclusion.{Conclusion}
 use Rattle.matching.specs.declared.Outcome.{Outcome}
 use Rattle.matching.specs.declared.Outcome.TheVariants.{Refused, Finished}
 use Rattle.text_theorems.specs.Reading.{read_formed}
@@ -97,7 +96,7 @@ give_around (x ∷ xs) (next {r = r} g gs) =
 -- an outcome is a refusal, or a finished match whose first rank is an Integer of 31 bits
 pub data Ends (o : Outcome) : Type 0 where
   refusal : {k p : ℕ} → o ≡ Refused k p → Ends o
-  conclusion : {c : Conclusion} → o ≡ Finished c → c.first_rank ≤ 2147483647 → Ends o
+  conclusion : {verdict : Bool} {i j steps count : ℕ} → o ≡ Finished verdict i j steps count → i ≤ 2147483647 → Ends o
 
 rank_small : (u : Value) → rank_of u ≤ 2147483647
 rank_small Undefined = omega arith
@@ -116,7 +115,7 @@ module _ {v b : List ℕ} (f : Formed v) where
   match_ends g m =
       let room = (match_list f g m).room in
       let d = m.finished (omega arith) in
-      conclusion d.answers (rw d.first_rank_is (rank_small d.first_rank))
+      conclusion d.answers (rank_small d.first_rank)
 
   leaves_ends : {l w c table list : List ℕ} {o : Outcome} → LineLeaves v b l w c table list o → Ends o
   leaves_ends (untabbed e g) = refusal g
@@ -134,7 +133,7 @@ counts o = cond (is_matched o) 1 0 + cond (is_unmatched o) 1 0 + cond (is_refuse
 ends_once : {o : Outcome} → Ends o → (counts o ≡ 1) × (job_rank o ≤ 2147483647)
 unfolding counts
 ends_once (refusal e) = rw e (refl, omega arith)
-ends_once (conclusion {c = c} e h) = rw e (go c.matched h)
+ends_once (conclusion {verdict = verdict} e h) = rw e (go verdict h)
   where
     go : (t : Bool) {n : ℕ} → n ≤ 2147483647 → (cond t 1 0 + cond (not t) 1 0 + 0 ≡ 1) × (cond t n 0 ≤ 2147483647)
     go true h = (refl, h)

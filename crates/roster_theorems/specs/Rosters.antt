@@ -22,7 +22,7 @@ use Rattle.line_match.proofs.Reading.{was_refused}
 use Rattle.roster.specs.declared.Answer.{Answer}
 use Rattle.roster.specs.declared.Answer.TheVariants.{Refused, Done}
 use Rattle.roster.specs.Roster.{rows_words, RosterRefuses, no_room, bad_job, long, Matches, Rostered, refused, matches}
-use Rattle.roster.specs.Laws.Lines.{line_gives, give_length}
+use Rattle.roster.proofs.Laws.Lines.{line_gives, give_length}
 use Rattle.roster_theorems.specs.Outcomes.{give_one, give_around, give_counts, line_one}
 
 module _ {v b s w c table list rows w' c' table' list' rows' : List ℕ} {r : Answer} (x : Matches v b s w c table list rows w' c' table' list' rows' r) where
