@@ -2,7 +2,6 @@
 -- change places; also with two budgets, where both finish; and of two texts. Assumes nothing.
 use Rattle.std.specs.Prelude.{ℕ, ◌≡◌, Bool, ◌||◌, List, length, ltb}
 use Rattle.links.specs.Pair.{pair_slots}
-use Rattle.matching.specs.Matching as M
 use Rattle.matching.specs.Matching.{table_words}
 use Rattle.matching.proofs.Laws.Exchange.{Exchanged}
 use Rattle.matching.specs.declared.Outcome.{Outcome}

@@ -1,6 +1,6 @@
 -- WHAT READING LEAVES AND A MATCH FINDS, from two texts: the match is that of the trees read, and document 01's worked examples hold of
 -- what `read` and `match_ads` leave. Assumes nothing.
-use Rattle.std.specs.Prelude.{ℕ, suc, ◌+◌, ◌-◌, ◌≤◌, ◌≡◌, Bool, List, [], ◌∷◌, ◌++◌, map, length, drop, replicate}
+use Rattle.std.specs.Prelude.{ℕ, suc, ◌-◌, ◌≤◌, ◌≡◌, Bool, List, [], ◌∷◌, ◌++◌, map, length, drop, replicate}
 use Rattle.links.specs.Pair.{pair_slots}
 use Rattle.syntax.specs.Tree.{Ad}
 use Rattle.syntax.specs.Reader as R

@@ -1,6 +1,5 @@
 -- `text::same_bytes` meets its contract. Assumes nothing.
 use mathlib.Core.Path.{refl, sym, ◌∙◌}
-use Rattle.text.specs.Strings.{same_bytes}
 use Rattle.text.proofs.Compare.{unequal, differ, agree, finished}
 use borrow.Author.Rules.{rules}
 use Rattle.text.proofs.same_bytes.Goals as goal
