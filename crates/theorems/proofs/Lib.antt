@@ -1,5 +1,6 @@
 pub mod Listing
 pub mod Existing
+pub mod Shown
 pub mod Texts
 pub mod Exchanging
 pub mod Exchanged

@@ -84,7 +84,7 @@ use Rattle.trees.proofs.Theorems as trees
 use Rattle.theorems.specs.Listing.{steps_of, count_of}
 use Rattle.text_theorems.specs.Reading as readings
 use Rattle.theorems.proofs.Texts as texts
-use Rattle.theorems.specs.Texts.{AllShow}
+use Rattle.theorems.proofs.Shown.{AllShow}
 use Rattle.theorems.proofs.Texts.{worked_shown, fault_shown}
 use Rattle.theorems.proofs.Exchanging as exchanging
 use Rattle.theorems.proofs.Exchanged as exchanged

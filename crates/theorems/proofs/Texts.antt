@@ -22,7 +22,8 @@ use Rattle.theorems.proofs.Listing.{matched_list}
 use Rattle.theorems.specs.Existing.{answer_at}
 use Rattle.theorems.proofs.Existing.{answer_exists}
 use Rattle.text_theorems.specs.Reading.{ReadAs, read_answered, accepted_tree, read_formed, front_words, front_bytes, front_nodes}
-use Rattle.theorems.specs.Texts.{TreesMatch, TextsMatch, TextsAnswer, Shown, Shows, AllShow}
+use Rattle.theorems.specs.Texts.{TreesMatch, TextsMatch, TextsAnswer}
+use Rattle.theorems.proofs.Shown.{Shown, Shows, AllShow}
 
 pub match_cast : {v b w c v' b' w' c' : List ℕ} {budget : ℕ} {table list : List ℕ} {r : Outcome} → v ≡ v' → b ≡ b' → w ≡ w' → c ≡ c' → Match v b w c budget table list r → Match v' b' w' c' budget table list r
 match_cast {v} {b} {w} {c} {v'} {b'} {w'} {c'} {budget} {table} {list} {r} p q i j m =
