@@ -87,10 +87,3 @@ ready_matches {v} {b} {w} {c} {budget} {table} {list} {r = r} p q h l m k p' e =
     go : {table' list' : List ℕ} → Matched v b w c budget table list table' list' r → ⊥
     go (refused x r t u) = refused_not_admitted x (record { roomy = room; first_well = p.well; second_well = q.well })
     go (matches x values entries m t u) = answered m
-
--- TWO TEXTS s AND t THAT ARE READ ARE NEVER REFUSED BY A MATCH of what reading left, whatever memory they were read into and whatever the
--- budget, where it has room for its table and list
-pub read_matches : {s t v₀ b₀ w₀ c₀ v b w c : List ℕ} {d n d' n' budget : ℕ} {table list table' list' : List ℕ} {r : Outcome} →
-    Answered s v₀ b₀ v b (reading.Accepted d n) → Answered t w₀ c₀ w c (reading.Accepted d' n') → table_words ≤ length table → pair_slots ≤ length list →
-    Matched v b w c budget table list table' list' r → (k p : ℕ) → r ≡ Refused k p → ⊥
-read_matches x y h l m k p e = ready_matches (accepted_ready _ _ _ _ _ _ _ x) (accepted_ready _ _ _ _ _ _ _ y) h l m k p e

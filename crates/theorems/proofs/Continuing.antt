@@ -17,7 +17,7 @@ words_append need rule [] ys t = refl
 words_append need rule (x ∷ xs) ys t = words_append need rule xs ys (step_words need rule t x)
 
 -- 'The run starts at any entry': at entry i, over the table that a match with the budget i left; `run_from` of
--- matching/specs/Laws/Running.antt gives the run, from marks
+-- matching/proofs/Laws/Running.antt gives the run, from marks
 pub match_continued : {v b w c : List ℕ} {i j steps : ℕ} {table list after table₂ list₂ : List ℕ} {r s : Outcome} (m : Match v b w c i table list r) →
     RunTo (needs (pair_graph v b w c) m.circular) (rule_at v b w c) m.order i j table after steps → Match v b w c (i + j) table₂ list₂ s → table₂ ≡ after
 match_continued {v} {b} {w} {c} {i} {j} {after = after} {table₂} m r n =

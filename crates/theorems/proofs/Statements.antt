@@ -76,7 +76,7 @@ use Rattle.matching.specs.declared.Outcome.TheVariants as outcome
 use Rattle.ordering.specs.Ordering.{Ordered}
 use Rattle.ordering.specs.declared.Order.TheVariants.{Found}
 use Rattle.worked.specs.Table.{table as examples, fault}
-use Rattle.acceptance.specs.Acceptance as acceptance
+use Rattle.acceptance.proofs.Acceptance as acceptance
 use Rattle.trees.specs.Nodes.{last_of}
 use Rattle.trees.specs.Links.{tree_graph}
 use Rattle.trees.specs.Values.{ad_of, Returns, Means, Same, Worths, Part, FromLiteral}

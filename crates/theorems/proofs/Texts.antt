@@ -14,7 +14,7 @@ use Rattle.reader.specs.Content.{Answered}
 use Rattle.matching.specs.Matching.{Match, Matched, refused, matches, table_words}
 use Rattle.matching.specs.declared.Outcome.{Outcome}
 use Rattle.matching.specs.declared.Outcome.TheVariants.{Refused}
-use Rattle.acceptance.specs.Acceptance.{read_matches}
+use Rattle.acceptance.proofs.Acceptance.{read_matches}
 use Rattle.worked.specs.Table.{Row, Holds, AllHold, table, fault}
 use Rattle.worked.proofs.Examples.{worked, fault_unmatched}
 use Rattle.theorems.specs.Listing.{Within}

@@ -41,7 +41,7 @@ use Rattle.matching.specs.declared.Outcome.TheVariants as outcome
 use Rattle.ordering.specs.Ordering as O
 use Rattle.ordering.specs.Ordering.{Orders, OrdersBy, Ordered}
 use Rattle.ordering.specs.declared.Order.TheVariants.{Found}
-use Rattle.acceptance.specs.Acceptance.{read_matches}
+use Rattle.acceptance.proofs.Acceptance.{read_matches}
 use Rattle.trees.specs.Nodes.{last_of}
 use Rattle.trees.specs.Links.{tree_graph}
 use Rattle.trees.specs.Values.{ad_of, Means, Worths, Part}
