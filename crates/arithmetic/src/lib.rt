@@ -46,7 +46,7 @@ fn of_reals(op: Arithmetic, x: f64, y: f64) -> f64
         Arithmetic::Difference => x - y,
         Arithmetic::Product => x * y,
         Arithmetic::Quotient => x / y,
-        Arithmetic::Remainder => x % y,
+        Arithmetic::Remainder => remainders::remainder(x, y),
     }
 }
 

@@ -14,4 +14,4 @@ pub returns-in-Quotient : goal.returns-in-Quotient
 returns-in-Quotient c = rw c.in-Quotient.is
 
 pub returns-in-Remainder : goal.returns-in-Remainder
-returns-in-Remainder c = rw c.in-Remainder.is
+returns-in-Remainder c = rw c.in-Remainder.is c.remainder.ensures

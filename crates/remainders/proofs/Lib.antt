@@ -1,0 +1,4 @@
+pub mod Units
+pub mod Patterns
+pub mod Steps
+pub mod Cases
