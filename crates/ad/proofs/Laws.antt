@@ -1,28 +1,12 @@
 -- What the functions over a stored ad give, over plain variables. Assumes nothing.
 use Prim.Native.Nat.{ℕ, zero, suc, ◌+◌, ◌-◌, ◌≤◌, ◌<◌}
 use native.Mathlib.Omega.{arith}
-use native.Mathlib.Numerals.{add-one}
 use mathlib.Core.Path.{◌≡◌, refl, ap}
 use mathlib.Core.Bool.{true, false}
-use mathlib.Core.List.{List, ◌++◌, append-nil}
-use lib.ListN.{length, get_or, set, drop, replicate, drop_of_length-le}
-use lib.Seq.{sets, slice}
+use mathlib.Core.List.{List}
 use Rattle.text.specs.Strings.{same_name}
-use Rattle.text.specs.Parts.{slice_one, slice_back}
 use Rattle.ad.specs.Stored.{offset_at, length_at, bytes_at}
 use Rattle.ad.specs.Inner.Names.{defined_in}
-
--- one byte copied
-pub copy_step : (s z : List ℕ) (i j q : ℕ) → i < q → q ≤ length s → sets (set z j (get_or s i 0)) (j + 1) (slice (i + 1) q s) ≡ sets z j (slice i q s)
-copy_step s z i j q h h' = rw (slice_one s i q h h', add-one j) refl
-
-pub copy_end : (s z : List ℕ) (i j q : ℕ) → q ≤ i → z ≡ sets z j (slice i q s)
-copy_end s z i j q h = rw (slice_back s i q h) refl
-
-pub cleared : (d : List ℕ) (i : ℕ) → length d ≤ i → i ≤ length d → replicate i 0 ++ drop i d ≡ replicate (length d) 0
-cleared d i h h' =
-    let e : i ≡ length d = omega arith in
-    rw (drop_of_length-le d h, append-nil) (ap (λ (k : ℕ). replicate k 0) e)
 
 -- ---- a name is looked for
 

@@ -6,6 +6,8 @@ use Rattle.syntax.specs.declared.Binary.{Binary}
 use Rattle.syntax.specs.declared.Binary.TheVariants.{Or, And, Equal, NotEqual, Is, Isnt, Less, LessOrEqual, Greater, GreaterOrEqual, Add, Subtract, Multiply, Divide, Remainder}
 use Rattle.syntax.specs.declared.Unary.{Unary}
 use Rattle.syntax.specs.declared.Unary.TheVariants.{Not, Plus, Minus}
+use Rattle.ad.specs.declared.kind.Kind.{Kind}
+use Rattle.ad.specs.declared.kind.Kind.TheVariants as K
 
 -- ---- the kinds of nodes: no kind is 0, so that unused room is no node
 
@@ -33,6 +35,20 @@ binary_kind Subtract = 24
 binary_kind Multiply = 25
 binary_kind Divide = 26
 binary_kind Remainder = 27
+
+-- the numbers of all kinds, in the order of docs/LAYOUT.md
+abbrev pub code_of : Kind → ℕ
+code_of K.Undefined = 1
+code_of K.Error = 2
+code_of K.Boolean = 3
+code_of K.Integer = 4
+code_of K.Real = 5
+code_of K.String = 6
+code_of K.Own = 7
+code_of K.Other = 8
+code_of (K.Unary u) = unary_kind u
+code_of K.Conditional = 12
+code_of (K.Binary j) = binary_kind j
 
 -- 'Reference: `name` or `other.name`'
 unfoldable pub scope_kind : Scope → ℕ

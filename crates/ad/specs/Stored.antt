@@ -1,6 +1,7 @@
 -- A stored ad as it is read, total over any memory: its nodes, operands, definitions and names (docs/LAYOUT.md). w are the words
 -- and b the bytes of an ad. Assumes nothing.
-use Rattle.std.specs.Prelude.{Bool, cond, ◌||◌, List, [], ◌∷◌, ℕ, zero, suc, ◌+◌, ◌-◌, ◌*◌, get_or, take, drop, eqb, ltb}
+use Rattle.std.specs.Prelude.{◌≡◌, Bool, cond, ◌||◌, Option, None, Result, List, [], ◌∷◌, map, ℕ, zero, suc, ◌+◌, ◌-◌, ◌*◌, get_or, slice_get, take, drop, eqb, ltb}
+use Rattle.std.specs.Result.{result_ok}
 use Rattle.text.specs.Strings.{same_name}
 use Rattle.syntax.specs.Bounds.{max_nodes, max_definitions}
 use Rattle.syntax.specs.Token.{pick}
@@ -8,6 +9,9 @@ use Rattle.syntax.specs.declared.Binary.{Binary}
 use Rattle.syntax.specs.declared.Binary.TheVariants.{Or, And, Equal, NotEqual, Is, Isnt, Less, LessOrEqual, Greater, GreaterOrEqual, Add, Subtract, Multiply, Divide, Remainder}
 use Rattle.syntax.specs.declared.Unary.{Unary}
 use Rattle.syntax.specs.declared.Unary.TheVariants.{Not, Plus, Minus}
+use Rattle.ad.specs.declared.kind.Kind.{Kind}
+use Rattle.ad.specs.declared.kind.Kind.TheVariants as K
+use Rattle.ad.specs.declared.kind.UnknownKind.{UnknownKind}
 use Rattle.ad.specs.Layout.{node_words}
 
 -- how many of the k numbers f i, f (i + 1), .. stand before the first that is 0: there 'Unused room is zero'
@@ -62,6 +66,19 @@ binaries = Or ∷ And ∷ Equal ∷ NotEqual ∷ Is ∷ Isnt ∷ Less ∷ LessOr
 -- the operator of two operands of a node of kind k
 unfoldable pub binary_of : ℕ → Binary
 binary_of k = get_or binaries (k - 13) Or
+
+-- the kinds by their numbers, from 1 on (docs/LAYOUT.md)
+abbrev pub kinds : List Kind
+kinds = K.Undefined ∷ K.Error ∷ K.Boolean ∷ K.Integer ∷ K.Real ∷ K.String ∷ K.Own ∷ K.Other ∷ K.Unary Not ∷ K.Unary Plus ∷ K.Unary Minus ∷ K.Conditional ∷ map K.Binary binaries
+
+-- the kind that a number stands for; none where it is 0 or behind the last
+unfoldable pub kind_of : ℕ → Option Kind
+kind_of zero = None
+kind_of (suc k) = slice_get kinds k
+
+-- what a number is read as: the kind that it stands for, or the number itself where it stands for none
+abbrev pub Decodes : ℕ → Result Kind UnknownKind → Type 0
+Decodes k r = (result_ok r ≡ kind_of k)
 
 -- whether a kind is that of a reference `name`: 'Reference: `name` or `other.name`'
 abbrev pub is_own : ℕ → Bool

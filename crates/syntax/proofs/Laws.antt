@@ -6,3 +6,4 @@ pub mod Sound
 pub mod SoundAd
 pub mod Complete
 pub mod Accepts
+pub mod Numbered

@@ -1,3 +1,4 @@
+pub mod Refusals
 pub mod Bounds
 pub mod Tree
 pub mod Token

@@ -3,6 +3,10 @@
 // 'Numbers that bound it': each is itself accepted, and one more is refused.
 #![tactic(auto)]
 
+ghost use Rattle.std.specs.Prelude.{◌≡◌};
+ghost use Rattle.syntax.specs.Grammar.{binds_of};
+ghost use Rattle.syntax.specs.Refusals.{number_of};
+
 pub const TEXT_BYTES: usize = 16384;
 
 pub const DEFINITIONS: usize = 256;
@@ -16,7 +20,7 @@ pub const STRING_BYTES: usize = 1024;
 pub const LEVELS: usize = 64;
 
 // Operators of two operands, loosest first: 'Binding, loosest first'.
-#[derive(Clone, Copy)]
+#[derive(Clone, Copy, PartialEq, Eq)]
 pub enum Binary {
     Or,
     And,
@@ -35,8 +39,24 @@ pub enum Binary {
     Remainder,
 }
 
+impl Binary {
+    // How tight it binds.
+    pub fn binds(self) -> usize
+        ensures { result ≡ binds_of self }
+    {
+        match self {
+            Binary::Or => 1,
+            Binary::And => 2,
+            Binary::Equal | Binary::NotEqual | Binary::Is | Binary::Isnt => 3,
+            Binary::Less | Binary::LessOrEqual | Binary::Greater | Binary::GreaterOrEqual => 4,
+            Binary::Add | Binary::Subtract => 5,
+            Binary::Multiply | Binary::Divide | Binary::Remainder => 6,
+        }
+    }
+}
+
 // Operators of one operand: 'unary `! + -`'.
-#[derive(Clone, Copy)]
+#[derive(Clone, Copy, PartialEq, Eq)]
 pub enum Unary {
     Not,
     Plus,
@@ -44,7 +64,7 @@ pub enum Unary {
 }
 
 // What a token can be that is no name, no literal and no operator of two operands.
-#[derive(Clone, Copy)]
+#[derive(Clone, Copy, PartialEq, Eq)]
 pub enum Symbol {
     Exclamation,
     Question,
@@ -58,4 +78,37 @@ pub enum Symbol {
     Point,
     Other,
     Parent,
+}
+
+// Why a call is refused, by the numbers of docs/LANGUAGE.md.
+#[derive(Clone, Copy, PartialEq, Eq)]
+pub enum Reason {
+    MemoryTooSmall = 1,
+    TextTooLong = 2,
+    NoToken = 3,
+    Misfit = 4,
+    NumberTooLarge = 5,
+    NestedTooDeep = 6,
+    TokenTooLong = 7,
+    DefinedTwice = 8,
+    TooMany = 9,
+    NotWellFormed = 10,
+    PrintTooLong = 11,
+    TooManyLines = 16,
+}
+
+impl Reason {
+    // The number that the commands and other languages show.
+    pub fn number(self) -> u8
+        ensures { result ≡ number_of self }
+    {
+        self as u8
+    }
+}
+
+// A refusal, and the place of the byte that it is about; 0 where it is about no byte.
+#[derive(Clone, Copy, PartialEq, Eq)]
+pub struct Refusal {
+    pub reason: Reason,
+    pub place: usize,
 }
