@@ -16,12 +16,20 @@ impl<'a> StoredAd<'a> {
     ghost use Rattle.ad.specs.Stored.{kind_of, kind_at, operand_at, offset_at, length_at, root_at, bytes_at, name_at};
     ghost use Rattle.ad.specs.Inner.Names.{defined_in};
 
+    // The number that stands for the kind of node i, whatever it is.
+    pub fn code(self, i: usize) -> u64
+        requires { i < max_nodes }
+        ensures { result ≡ kind_at self.entry.words.now i }
+    {
+        self.words[4 * i]
+    }
+
     // The kind of node i; none where its number is no kind's.
     pub fn kind(self, i: usize) -> Option<super::Kind>
         requires { i < max_nodes }
         ensures { result ≡ kind_of (kind_at self.entry.words.now i) }
     {
-        super::Kind::try_from(self.words[4 * i]).ok()
+        super::Kind::try_from(self.code(i)).ok()
     }
 
     // Node i's operand or datum j.

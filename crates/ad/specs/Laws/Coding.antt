@@ -1,0 +1,111 @@
+-- The kinds and their numbers: each number is one kind's at most, and says what the kind is. Assumes nothing.
+use Rattle.std.specs.Prelude.{ℕ, zero, suc, ◌+◌, ◌-◌, ◌≤◌, ◌<◌, ◌≡◌, refl, Option, Some, None}
+use Rattle.std.proofs.Common.{arith, sym, ◌∙◌, ap}
+use Rattle.std.proofs.lemmas.Option.{slice_get_past}
+use native.Mathlib.Decide.{dec_lt}
+use Rattle.syntax.specs.declared.Binary.{Binary}
+use Rattle.syntax.specs.declared.Binary.TheVariants.{Or, And, Equal, NotEqual, Is, Isnt, Less, LessOrEqual, Greater, GreaterOrEqual, Add, Subtract, Multiply, Divide, Remainder}
+use Rattle.syntax.specs.declared.Unary.{Unary}
+use Rattle.syntax.specs.declared.Unary.TheVariants.{Not, Plus, Minus}
+use Rattle.ad.specs.declared.kind.Kind.{Kind}
+use Rattle.ad.specs.declared.kind.Kind.TheVariants as K
+use Rattle.ad.specs.Layout.{unary_kind, binary_kind, code_of}
+use Rattle.ad.specs.Stored.{kinds, kind_of, unary_of, binary_of}
+
+-- the number of a kind, 0 where there is none
+abbrev number : Option Kind → ℕ
+number (Some x) = code_of x
+number None = 0
+
+round : (k : ℕ) → k < 28 → number (kind_of k) ≡ k
+unfolding kind_of
+round zero h = refl
+round (suc zero) h = refl
+round (suc (suc zero)) h = refl
+round (suc (suc (suc zero))) h = refl
+round (suc (suc (suc (suc zero)))) h = refl
+round (suc (suc (suc (suc (suc zero))))) h = refl
+round (suc (suc (suc (suc (suc (suc zero)))))) h = refl
+round (suc (suc (suc (suc (suc (suc (suc zero))))))) h = refl
+round (suc (suc (suc (suc (suc (suc (suc (suc zero)))))))) h = refl
+round (suc (suc (suc (suc (suc (suc (suc (suc (suc zero))))))))) h = refl
+round (suc (suc (suc (suc (suc (suc (suc (suc (suc (suc zero)))))))))) h = refl
+round (suc (suc (suc (suc (suc (suc (suc (suc (suc (suc (suc zero))))))))))) h = refl
+round (suc (suc (suc (suc (suc (suc (suc (suc (suc (suc (suc (suc zero)))))))))))) h = refl
+round (suc (suc (suc (suc (suc (suc (suc (suc (suc (suc (suc (suc (suc zero))))))))))))) h = refl
+round (suc (suc (suc (suc (suc (suc (suc (suc (suc (suc (suc (suc (suc (suc zero)))))))))))))) h = refl
+round (suc (suc (suc (suc (suc (suc (suc (suc (suc (suc (suc (suc (suc (suc (suc zero))))))))))))))) h = refl
+round (suc (suc (suc (suc (suc (suc (suc (suc (suc (suc (suc (suc (suc (suc (suc (suc zero)))))))))))))))) h = refl
+round (suc (suc (suc (suc (suc (suc (suc (suc (suc (suc (suc (suc (suc (suc (suc (suc (suc zero))))))))))))))))) h = refl
+round (suc (suc (suc (suc (suc (suc (suc (suc (suc (suc (suc (suc (suc (suc (suc (suc (suc (suc zero)))))))))))))))))) h = refl
+round (suc (suc (suc (suc (suc (suc (suc (suc (suc (suc (suc (suc (suc (suc (suc (suc (suc (suc (suc zero))))))))))))))))))) h = refl
+round (suc (suc (suc (suc (suc (suc (suc (suc (suc (suc (suc (suc (suc (suc (suc (suc (suc (suc (suc (suc zero)))))))))))))))))))) h = refl
+round (suc (suc (suc (suc (suc (suc (suc (suc (suc (suc (suc (suc (suc (suc (suc (suc (suc (suc (suc (suc (suc zero))))))))))))))))))))) h = refl
+round (suc (suc (suc (suc (suc (suc (suc (suc (suc (suc (suc (suc (suc (suc (suc (suc (suc (suc (suc (suc (suc (suc zero)))))))))))))))))))))) h = refl
+round (suc (suc (suc (suc (suc (suc (suc (suc (suc (suc (suc (suc (suc (suc (suc (suc (suc (suc (suc (suc (suc (suc (suc zero))))))))))))))))))))))) h = refl
+round (suc (suc (suc (suc (suc (suc (suc (suc (suc (suc (suc (suc (suc (suc (suc (suc (suc (suc (suc (suc (suc (suc (suc (suc zero)))))))))))))))))))))))) h = refl
+round (suc (suc (suc (suc (suc (suc (suc (suc (suc (suc (suc (suc (suc (suc (suc (suc (suc (suc (suc (suc (suc (suc (suc (suc (suc zero))))))))))))))))))))))))) h = refl
+round (suc (suc (suc (suc (suc (suc (suc (suc (suc (suc (suc (suc (suc (suc (suc (suc (suc (suc (suc (suc (suc (suc (suc (suc (suc (suc zero)))))))))))))))))))))))))) h = refl
+round (suc (suc (suc (suc (suc (suc (suc (suc (suc (suc (suc (suc (suc (suc (suc (suc (suc (suc (suc (suc (suc (suc (suc (suc (suc (suc (suc zero))))))))))))))))))))))))))) h = refl
+round (suc (suc (suc (suc (suc (suc (suc (suc (suc (suc (suc (suc (suc (suc (suc (suc (suc (suc (suc (suc (suc (suc (suc (suc (suc (suc (suc (suc k)))))))))))))))))))))))))))) h = absurd (omega arith)
+
+past : (k : ℕ) → 28 ≤ k → kind_of k ≡ None
+unfolding kind_of
+past zero h = absurd (omega arith)
+past (suc k) h = slice_get_past kinds k (omega arith)
+
+-- a number that stands for a kind is that kind's
+pub coded : (k : ℕ) (x : Kind) → kind_of k ≡ Some x → k ≡ code_of x
+coded k x e = go (dec_lt k 28)
+  where
+    go : Dec (k < 28) → k ≡ code_of x
+    go (yes h) = sym (round k h) ∙ ap number e
+    go (no h) = let f = past k (omega arith) in cc
+
+-- 9 to 11 stand for operators of one operand, 13 to 27 for those of two
+pub unary_range : (u : Unary) → (9 ≤ unary_kind u) × (unary_kind u < 12)
+unary_range Not = (omega arith, omega arith)
+unary_range Plus = (omega arith, omega arith)
+unary_range Minus = (omega arith, omega arith)
+
+pub binary_range : (j : Binary) → (13 ≤ binary_kind j) × (binary_kind j < 28)
+binary_range Or = (omega arith, omega arith)
+binary_range And = (omega arith, omega arith)
+binary_range Equal = (omega arith, omega arith)
+binary_range NotEqual = (omega arith, omega arith)
+binary_range Is = (omega arith, omega arith)
+binary_range Isnt = (omega arith, omega arith)
+binary_range Less = (omega arith, omega arith)
+binary_range LessOrEqual = (omega arith, omega arith)
+binary_range Greater = (omega arith, omega arith)
+binary_range GreaterOrEqual = (omega arith, omega arith)
+binary_range Add = (omega arith, omega arith)
+binary_range Subtract = (omega arith, omega arith)
+binary_range Multiply = (omega arith, omega arith)
+binary_range Divide = (omega arith, omega arith)
+binary_range Remainder = (omega arith, omega arith)
+
+-- and which operator it is
+pub unary_coded : (u : Unary) → unary_of (unary_kind u) ≡ u
+unfolding unary_of
+unary_coded Not = refl
+unary_coded Plus = refl
+unary_coded Minus = refl
+
+pub binary_coded : (j : Binary) → binary_of (binary_kind j) ≡ j
+unfolding binary_of
+binary_coded Or = refl
+binary_coded And = refl
+binary_coded Equal = refl
+binary_coded NotEqual = refl
+binary_coded Is = refl
+binary_coded Isnt = refl
+binary_coded Less = refl
+binary_coded LessOrEqual = refl
+binary_coded Greater = refl
+binary_coded GreaterOrEqual = refl
+binary_coded Add = refl
+binary_coded Subtract = refl
+binary_coded Multiply = refl
+binary_coded Divide = refl
+binary_coded Remainder = refl
