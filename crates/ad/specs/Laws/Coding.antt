@@ -1,5 +1,5 @@
 -- The kinds and their numbers: each number is one kind's at most, and says what the kind is. Assumes nothing.
-use Rattle.std.specs.Prelude.{ℕ, zero, suc, ◌+◌, ◌-◌, ◌≤◌, ◌<◌, ◌≡◌, refl, Option, Some, None}
+use Rattle.std.specs.Prelude.{ℕ, zero, suc, ◌≤◌, ◌<◌, ◌≡◌, refl, Option, Some, None}
 use Rattle.std.proofs.Common.{arith, sym, ◌∙◌, ap}
 use Rattle.std.proofs.lemmas.Option.{slice_get_past}
 use native.Mathlib.Decide.{dec_lt}
@@ -62,6 +62,37 @@ coded k x e = go (dec_lt k 28)
     go (yes h) = sym (round k h) ∙ ap number e
     go (no h) = let f = past k (omega arith) in cc
 
+-- and a kind's number stands for it
+pub uncoded : (x : Kind) → kind_of (code_of x) ≡ Some x
+unfolding kind_of
+uncoded K.Undefined = refl
+uncoded K.Error = refl
+uncoded K.Boolean = refl
+uncoded K.Integer = refl
+uncoded K.Real = refl
+uncoded K.String = refl
+uncoded K.Own = refl
+uncoded K.Other = refl
+uncoded (K.Unary Not) = refl
+uncoded (K.Unary Plus) = refl
+uncoded (K.Unary Minus) = refl
+uncoded K.Conditional = refl
+uncoded (K.Binary Or) = refl
+uncoded (K.Binary And) = refl
+uncoded (K.Binary Equal) = refl
+uncoded (K.Binary NotEqual) = refl
+uncoded (K.Binary Is) = refl
+uncoded (K.Binary Isnt) = refl
+uncoded (K.Binary Less) = refl
+uncoded (K.Binary LessOrEqual) = refl
+uncoded (K.Binary Greater) = refl
+uncoded (K.Binary GreaterOrEqual) = refl
+uncoded (K.Binary Add) = refl
+uncoded (K.Binary Subtract) = refl
+uncoded (K.Binary Multiply) = refl
+uncoded (K.Binary Divide) = refl
+uncoded (K.Binary Remainder) = refl
+
 -- 9 to 11 stand for operators of one operand, 13 to 27 for those of two
 pub unary_range : (u : Unary) → (9 ≤ unary_kind u) × (unary_kind u < 12)
 unary_range Not = (omega arith, omega arith)
@@ -109,3 +140,36 @@ binary_coded Subtract = refl
 binary_coded Multiply = refl
 binary_coded Divide = refl
 binary_coded Remainder = refl
+
+-- 13 to 27 stand for an operator of two operands
+pub binary_told : (k : ℕ) → 12 < k → k < 28 → kind_of k ≡ Some (K.Binary (binary_of k))
+unfolding kind_of binary_of
+binary_told zero h g = absurd (omega arith)
+binary_told (suc zero) h g = absurd (omega arith)
+binary_told (suc (suc zero)) h g = absurd (omega arith)
+binary_told (suc (suc (suc zero))) h g = absurd (omega arith)
+binary_told (suc (suc (suc (suc zero)))) h g = absurd (omega arith)
+binary_told (suc (suc (suc (suc (suc zero))))) h g = absurd (omega arith)
+binary_told (suc (suc (suc (suc (suc (suc zero)))))) h g = absurd (omega arith)
+binary_told (suc (suc (suc (suc (suc (suc (suc zero))))))) h g = absurd (omega arith)
+binary_told (suc (suc (suc (suc (suc (suc (suc (suc zero)))))))) h g = absurd (omega arith)
+binary_told (suc (suc (suc (suc (suc (suc (suc (suc (suc zero))))))))) h g = absurd (omega arith)
+binary_told (suc (suc (suc (suc (suc (suc (suc (suc (suc (suc zero)))))))))) h g = absurd (omega arith)
+binary_told (suc (suc (suc (suc (suc (suc (suc (suc (suc (suc (suc zero))))))))))) h g = absurd (omega arith)
+binary_told (suc (suc (suc (suc (suc (suc (suc (suc (suc (suc (suc (suc zero)))))))))))) h g = absurd (omega arith)
+binary_told (suc (suc (suc (suc (suc (suc (suc (suc (suc (suc (suc (suc (suc zero))))))))))))) h g = refl
+binary_told (suc (suc (suc (suc (suc (suc (suc (suc (suc (suc (suc (suc (suc (suc zero)))))))))))))) h g = refl
+binary_told (suc (suc (suc (suc (suc (suc (suc (suc (suc (suc (suc (suc (suc (suc (suc zero))))))))))))))) h g = refl
+binary_told (suc (suc (suc (suc (suc (suc (suc (suc (suc (suc (suc (suc (suc (suc (suc (suc zero)))))))))))))))) h g = refl
+binary_told (suc (suc (suc (suc (suc (suc (suc (suc (suc (suc (suc (suc (suc (suc (suc (suc (suc zero))))))))))))))))) h g = refl
+binary_told (suc (suc (suc (suc (suc (suc (suc (suc (suc (suc (suc (suc (suc (suc (suc (suc (suc (suc zero)))))))))))))))))) h g = refl
+binary_told (suc (suc (suc (suc (suc (suc (suc (suc (suc (suc (suc (suc (suc (suc (suc (suc (suc (suc (suc zero))))))))))))))))))) h g = refl
+binary_told (suc (suc (suc (suc (suc (suc (suc (suc (suc (suc (suc (suc (suc (suc (suc (suc (suc (suc (suc (suc zero)))))))))))))))))))) h g = refl
+binary_told (suc (suc (suc (suc (suc (suc (suc (suc (suc (suc (suc (suc (suc (suc (suc (suc (suc (suc (suc (suc (suc zero))))))))))))))))))))) h g = refl
+binary_told (suc (suc (suc (suc (suc (suc (suc (suc (suc (suc (suc (suc (suc (suc (suc (suc (suc (suc (suc (suc (suc (suc zero)))))))))))))))))))))) h g = refl
+binary_told (suc (suc (suc (suc (suc (suc (suc (suc (suc (suc (suc (suc (suc (suc (suc (suc (suc (suc (suc (suc (suc (suc (suc zero))))))))))))))))))))))) h g = refl
+binary_told (suc (suc (suc (suc (suc (suc (suc (suc (suc (suc (suc (suc (suc (suc (suc (suc (suc (suc (suc (suc (suc (suc (suc (suc zero)))))))))))))))))))))))) h g = refl
+binary_told (suc (suc (suc (suc (suc (suc (suc (suc (suc (suc (suc (suc (suc (suc (suc (suc (suc (suc (suc (suc (suc (suc (suc (suc (suc zero))))))))))))))))))))))))) h g = refl
+binary_told (suc (suc (suc (suc (suc (suc (suc (suc (suc (suc (suc (suc (suc (suc (suc (suc (suc (suc (suc (suc (suc (suc (suc (suc (suc (suc zero)))))))))))))))))))))))))) h g = refl
+binary_told (suc (suc (suc (suc (suc (suc (suc (suc (suc (suc (suc (suc (suc (suc (suc (suc (suc (suc (suc (suc (suc (suc (suc (suc (suc (suc (suc zero))))))))))))))))))))))))))) h g = refl
+binary_told (suc (suc (suc (suc (suc (suc (suc (suc (suc (suc (suc (suc (suc (suc (suc (suc (suc (suc (suc (suc (suc (suc (suc (suc (suc (suc (suc (suc k)))))))))))))))))))))))))))) h g = absurd (omega arith)
