@@ -4,6 +4,7 @@ use Prim.Native.Nat.{ℕ, zero, suc, ◌+◌, ◌-◌, ◌≤◌, ◌<◌}
 use native.Mathlib.Omega.{arith}
 use mathlib.Core.Path.{◌≡◌, refl, sym, ◌∙◌, ap, subst}
 use mathlib.Core.Bool.{Bool, true, false, cond, ◌&&◌}
+use mathlib.Core.Logic.{◌⊎◌, inl, inr}
 use mathlib.Core.List.{List, [], ◌∷◌}
 use lib.ListN.{length, length-take}
 use lib.Dec.{eqb}
@@ -88,8 +89,6 @@ module _ (w b : List ℕ) (hw : length w ≡ 4864) (hb : length b ≡ 16384) whe
 
 -- ---- memory that is too small holds no ad
 
-pub small_words : (w b : List ℕ) → length w < 4864 → Answers w b None
-small_words w b h a x = omega (arith, (holds_long a x).0, length-take 4864 w)
-
-pub small_bytes : (w b : List ℕ) → length b < 16384 → Answers w b None
-small_bytes w b h a x = omega (arith, (holds_long a x).1, length-take 16384 b)
+pub small : (w b : List ℕ) → (length w < 4864) ⊎ (4864 ≤ length w × length b < 16384) → Answers w b None
+small w b (inl h) a x = omega (arith, (holds_long a x).0, length-take 4864 w)
+small w b (inr h) a x = omega (arith, (holds_long a x).1, length-take 16384 b)
