@@ -17,7 +17,7 @@ use Rattle.syntax.specs.Inner.Lexeme.{every, in_string, is_name, is_string, is_r
 use Rattle.ad.specs.Layout.{literal_bytes, expr_bytes}
 use Rattle.ad.specs.Layout.{code_of}
 use Rattle.ad.specs.Stored.{kind_of, kind_at, operand_at, bytes_at}
-use Rattle.ad.specs.Laws.Coding.{coded, uncoded}
+use Rattle.ad.specs.Laws.Coding.{coded, uncoded, other_code}
 use Rattle.ad.specs.declared.kind.Kind.{Kind}
 use Rattle.ad.specs.declared.kind.Kind.TheVariants as K
 use Rattle.tree_check.specs.Inner.Decode.{tree, Found, got, bad, test, keyword_fits, boolean_fits, integer_fits, stands_at, leaf_of, leaf_at, Same, walk_if, plain_walk}
@@ -131,7 +131,5 @@ module _ (w b : List ℕ) (i o x y : ℕ) (ex : x ≡ operand_at w i 0) (ey : y 
     -- an operator's
     pub leaf_not : (k : Kind) → kind_of (kind_at w i) ≡ Some k → (k ≡ K.Undefined → ⊥) → (k ≡ K.Error → ⊥) → (k ≡ K.Boolean → ⊥) → (k ≡ K.Integer → ⊥) → (k ≡ K.Real → ⊥) → (k ≡ K.String → ⊥) → (k ≡ K.Own → ⊥) → (k ≡ K.Other → ⊥) → Same o (leaf_at w b i o) None
     leaf_not k e n₁ n₂ n₃ n₄ n₅ n₆ n₇ n₈ =
-        other_number (kind_at w i) refl (not K.Undefined n₁) (not K.Error n₂) (not K.Boolean n₃) (not K.Integer n₄) (not K.Real n₅) (not K.String n₆) (not K.Own n₇) (not K.Other n₈)
-      where
-        not : (q : Kind) → (k ≡ q → ⊥) → kind_at w i ≡ code_of q → ⊥
-        not q n h = let f = uncoded q in let g : kind_of (code_of q) ≡ Some k = sym (ap kind_of h) ∙ e in n (let r : Some k ≡ Some q = sym g ∙ f in cc)
+        let n = other_code (kind_at w i) k in
+        other_number (kind_at w i) refl (n K.Undefined e n₁) (n K.Error e n₂) (n K.Boolean e n₃) (n K.Integer e n₄) (n K.Real e n₅) (n K.String e n₆) (n K.Own e n₇) (n K.Other e n₈)

@@ -93,6 +93,13 @@ uncoded (K.Binary Multiply) = refl
 uncoded (K.Binary Divide) = refl
 uncoded (K.Binary Remainder) = refl
 
+-- a kind's number is no other kind's
+pub other_code : (k : ℕ) (x y : Kind) → kind_of k ≡ Some x → (x ≡ y → ⊥) → k ≡ code_of y → ⊥
+other_code k x y e n h =
+    let f = uncoded y in
+    let g : Some x ≡ Some y = sym e ∙ ap kind_of h ∙ f in
+    n (let r : x ≡ y = cc in r)
+
 -- 9 to 11 stand for operators of one operand, 13 to 27 for those of two
 pub unary_range : (u : Unary) → (9 ≤ unary_kind u) × (unary_kind u < 12)
 unary_range Not = (omega arith, omega arith)
