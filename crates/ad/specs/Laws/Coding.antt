@@ -1,5 +1,5 @@
 -- The kinds and their numbers: each number is one kind's at most, and says what the kind is. Assumes nothing.
-use Rattle.std.specs.Prelude.{ℕ, zero, suc, ◌≤◌, ◌<◌, ◌≡◌, refl, Option, Some, None}
+use Rattle.std.specs.Prelude.{ℕ, zero, suc, ◌≤◌, ◌<◌, ◌≡◌, refl, Option, Some, None, IsSome}
 use Rattle.std.proofs.Common.{arith, sym, ◌∙◌, ap}
 use Rattle.std.proofs.lemmas.Option.{slice_get_past}
 use native.Mathlib.Decide.{dec_lt}
@@ -92,6 +92,10 @@ uncoded (K.Binary Subtract) = refl
 uncoded (K.Binary Multiply) = refl
 uncoded (K.Binary Divide) = refl
 uncoded (K.Binary Remainder) = refl
+
+pub some_kind : (k : ℕ) (x : Kind) → k ≡ code_of x → (r : Option Kind) → r ≡ kind_of k → IsSome r
+some_kind k x e (Some y) h = refl
+some_kind k x e None h = let f : None ≡ Some x = h ∙ ap kind_of e ∙ uncoded x in cc
 
 -- a kind's number is no other kind's
 pub other_code : (k : ℕ) (x y : Kind) → kind_of k ≡ Some x → (x ≡ y → ⊥) → k ≡ code_of y → ⊥
