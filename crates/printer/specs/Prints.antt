@@ -1,13 +1,13 @@
 -- What `print` answers and leaves, whatever memory and output it is lent. w and b are the words and bytes of an ad, o is the output.
 -- Assumes nothing.
-use Rattle.std.specs.Prelude.{ℕ, ◌≤◌, ◌≡◌, ◌⊎◌, List, [], ◌++◌, length, take, drop}
+use Rattle.std.specs.Prelude.{ℕ, Result, Ok, Err, ◌≤◌, ◌≡◌, ◌⊎◌, List, [], ◌++◌, length, take, drop}
 use Rattle.syntax.specs.Bounds.{text_bytes}
 use Rattle.syntax.specs.Tree.{Ad}
 use Rattle.syntax.specs.Print.{printed_ad}
 use Rattle.ad.specs.Layout.{ad_words, ad_bytes_room}
 use Rattle.well_formed.specs.WellFormed.{Holds}
-use Rattle.printer.specs.declared.Printed.{Printed}
-use Rattle.printer.specs.declared.Printed.TheVariants.{Text, Refused}
+use Rattle.syntax.specs.Refusals.{number_of}
+use Rattle.syntax.specs.declared.Refusal.{Refusal}
 
 -- the memory of an ad is as large as it must be, and no 'lent room smaller than above'
 pub record Roomy (w b : List ℕ) : Type 0 where
@@ -34,12 +34,12 @@ pub data Refuses (t : Ad → List ℕ) (w b o : List ℕ) : ℕ → Type 0 where
 
 -- What a printer of the text t leaves: o' is the output after it. The text stands in front and 'the bytes after it stay'; a refusal
 -- has the place '0 for 1, 2, 10 and 11' and leaves 'all unchanged'.
-abbrev pub PrintsText : (Ad → List ℕ) → List ℕ → List ℕ → List ℕ → List ℕ → Printed → Type 0
-PrintsText t w b o o' (Text n) = (a : Ad) × Stored w b a × Fitting o (t a) × (n ≡ length (t a)) × (o' ≡ t a ++ drop n o)
-PrintsText t w b o o' (Refused k p) = Refuses t w b o k × (p ≡ 0) × (o' ≡ o)
+abbrev pub PrintsText : (Ad → List ℕ) → List ℕ → List ℕ → List ℕ → List ℕ → Result ℕ Refusal → Type 0
+PrintsText t w b o o' (Ok n) = (a : Ad) × Stored w b a × Fitting o (t a) × (n ≡ length (t a)) × (o' ≡ t a ++ drop n o)
+PrintsText t w b o o' (Err r) = Refuses t w b o (number_of r.reason) × (r.place ≡ 0) × (o' ≡ o)
 
 -- THE CONTRACT OF `print`: the whole ad, '`[`, definitions as `name = expression` joined by `; `, `]`'
-abbrev pub Prints : List ℕ → List ℕ → List ℕ → List ℕ → Printed → Type 0
+abbrev pub Prints : List ℕ → List ℕ → List ℕ → List ℕ → Result ℕ Refusal → Type 0
 Prints = PrintsText printed_ad
 
 -- THE CONTRACT OF `text`: 'The text is handed back as the front part of the caller's output'; nothing of it where it is refused

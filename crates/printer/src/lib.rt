@@ -1,52 +1,45 @@
 // Printing: a stored ad to its text.
 #![tactic(auto)]
 
-ghost use Rattle.std.specs.Prelude.{◌≡◌, ◌<◌, length};
+ghost use Rattle.std.specs.Prelude.{◌≡◌, length};
 ghost use Rattle.ad.specs.Layout.{ad_words, ad_bytes_room};
 ghost use Rattle.printer.specs.Prints.{Prints, HandsBack};
 
-use well_formed::Checked;
-
-// What printing gives.
-#[derive(Clone, Copy)]
-pub enum Printed {
-    // The length of the text.
-    Text(usize),
-    // The refusal's number and place.
-    Refused(u8, usize),
-}
+use ad::StoredAd;
+use syntax::{Reason, Refusal};
 
 // Printing over exactly the room of an ad.
-fn print_room(words: &[u64], bytes: &[u8], out: &mut [u8]) -> Printed
-    requires { (length words.now ≡ ad_words) × (length bytes.now ≡ ad_bytes_room) }
-    ensures { Prints words.now bytes.now out.old out.new result }
+fn print_room(ad: StoredAd<'_>, out: &mut [u8]) -> Result<usize, Refusal>
+    requires { (length ad.words.now ≡ ad_words) × (length ad.bytes.now ≡ ad_bytes_room) }
+    ensures { Prints ad.entry.words.now ad.entry.bytes.now out.old out.new result }
 {
-    match well_formed::check(words, bytes) {
-        Checked::Malformed => Printed::Refused(10, 0),
-        Checked::WellFormed(d, _, k) => {
-            if out.len() < k {
-                return Printed::Refused(11, 0);
-            }
-            if syntax::TEXT_BYTES < k {
-                return Printed::Refused(11, 0);
-            }
-            ad_printer::put_ad(words, bytes, d, out);
-            Printed::Text(k)
-        }
+    let checked = well_formed::check(ad.words, ad.bytes).ok_or(Reason::NotWellFormed)?;
+    let k = checked.print_length;
+    if out.len() < k {
+        return Err(Reason::PrintTooLong.into());
     }
+    if syntax::TEXT_BYTES < k {
+        return Err(Reason::PrintTooLong.into());
+    }
+    ad_printer::put_ad(ad, checked.counts.definitions, out);
+    Ok(k)
 }
 
 // Prints any stored numbers into any output: the length of the text that then stands in front, or a refusal.
-pub fn print(words: &[u64], bytes: &[u8], out: &mut [u8]) -> Printed
+pub fn print(words: &[u64], bytes: &[u8], out: &mut [u8]) -> Result<usize, Refusal>
     ensures { Prints words.now bytes.now out.old out.new result }
 {
     if words.len() < ad::WORDS {
-        return Printed::Refused(1, 0);
+        return Err(Reason::MemoryTooSmall.into());
     }
     if bytes.len() < ad::BYTES {
-        return Printed::Refused(1, 0);
+        return Err(Reason::MemoryTooSmall.into());
     }
-    print_room(&words[..ad::WORDS], &bytes[..ad::BYTES], out)
+    let ad = StoredAd {
+        words: &words[..ad::WORDS],
+        bytes: &bytes[..ad::BYTES],
+    };
+    print_room(ad, out)
 }
 
 // The same, handed back as the front part of the output; nothing of it where it is refused.
@@ -55,7 +48,7 @@ pub fn text<'a>(words: &[u64], bytes: &[u8], out: &'a mut [u8]) -> &'a mut [u8]
     ensures front { result.ref_ptr ≡ out.entry.ref_ptr }
 {
     match print(words, bytes, &mut *out) {
-        Printed::Text(n) => &mut out[..n],
-        Printed::Refused(_, _) => &mut out[..0],
+        Ok(n) => &mut out[..n],
+        Err(_) => &mut out[..0],
     }
 }

@@ -112,3 +112,12 @@ pub struct Refusal {
     pub reason: Reason,
     pub place: usize,
 }
+
+// A refusal that is about no byte.
+impl From<Reason> for Refusal {
+    ghost from_gives = { λ x r. r ≡ record { reason = x; place = 0 } };
+
+    fn from(reason: Reason) -> Refusal {
+        Refusal { reason, place: 0 }
+    }
+}
