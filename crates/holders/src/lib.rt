@@ -4,31 +4,25 @@
 ghost use Rattle.std.specs.Prelude.{◌≡◌};
 ghost use Rattle.holders.specs.Holders.{holder, holder_name};
 
-// The definition that a node belongs to, by its number.
-#[derive(Clone, Copy)]
-pub enum Holder {
-    Definition(usize),
-    Nothing,
-}
+use ad::StoredAd;
 
-// The definition of a stored ad that a node belongs to.
-pub fn definition_of(words: &[u64], node: usize) -> Holder
+// The definition of a stored ad that a node belongs to, by its number.
+pub fn definition_of(words: &[u64], node: usize) -> Option<usize>
     ensures { result ≡ holder words.now node }
 {
     if words.len() < ad::WORDS {
-        return Holder::Nothing;
+        return None;
     }
-    let mut j = 0;
-    while j < syntax::DEFINITIONS {
-        if ad::name_length(words, j) == 0 {
-            return Holder::Nothing;
+    let ad = StoredAd { words, bytes: b"" };
+    for j in 0..syntax::DEFINITIONS {
+        if ad.name_length(j) == 0 {
+            return None;
         }
-        if node <= ad::root(words, j) {
-            return Holder::Definition(j);
+        if node <= ad.root(j) {
+            return Some(j);
         }
-        j += 1;
     }
-    Holder::Nothing
+    None
 }
 
 // The name of the definition that a node belongs to, as a part of the ad's bytes; empty where there is none.
@@ -36,7 +30,10 @@ pub fn definition_name<'a>(words: &[u64], bytes: &'a [u8], node: usize) -> &'a [
     ensures { result.now ≡ holder_name words.now bytes.now (holder words.now node) }
 {
     match definition_of(words, node) {
-        Holder::Nothing => &bytes[..0],
-        Holder::Definition(j) => ad::part(bytes, ad::offset(words, j), ad::name_length(words, j)),
+        Some(j) => {
+            let ad = StoredAd { words, bytes };
+            parts::cut(bytes, ad.offset(j), ad.name_length(j))
+        }
+        None => &bytes[..0],
     }
 }

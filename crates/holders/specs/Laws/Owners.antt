@@ -1,5 +1,5 @@
 -- OF A STORED AD, THE DEFINITION FOUND IS THE ONE THAT THE NODE BELONGS TO. Assumes nothing.
-use Rattle.std.specs.Prelude.{ℕ, zero, suc, ◌+◌, ◌-◌, ◌≤◌, ◌<◌, ◌≡◌, refl, Bool, true, false, cond, List, [], ◌∷◌, length, eqb, ltb, leb}
+use Rattle.std.specs.Prelude.{ℕ, Option, Some, None, zero, suc, ◌+◌, ◌-◌, ◌≤◌, ◌<◌, ◌≡◌, refl, Bool, true, false, cond, List, [], ◌∷◌, length, eqb, ltb, leb}
 use Rattle.std.proofs.Common.{arith, add-one, sym, ◌∙◌, ap, ltb-true, ltb-false, le-ltb, le-leb, ne_eqb}
 use Rattle.std.proofs.lemmas.Bool.{lt-leb}
 use Rattle.syntax.specs.Tree.{Definition, Ad, size, nodes}
@@ -12,7 +12,6 @@ use Rattle.syntax.proofs.Laws.FrontTokens.{name_some}
 use Rattle.well_formed.specs.Laws.Definitions.{Table, table_row}
 use Rattle.well_formed.specs.Laws.Whole.{holds_table, stop_zero, holds_long}
 use Rattle.holders.specs.Holders.{owner_from, owner, holder_from, holder}
-use Rattle.holders.specs.declared.Holder.TheVariants as found
 
 -- definitions whose nodes begin at n, among k that may be there, behind which none is named
 from : (a : Ad) (k : ℕ) (w b : List ℕ) (j n o i : ℕ) → Table w b j n o a → length a ≤ k → (length a < k → length_at w (j + length a) ≡ 0) → n ≤ i → holder_from w i j k ≡ owner_from j a (i - n)
@@ -38,8 +37,8 @@ from (d ∷ a) (suc k) w b j n o i t h z l =
 
     go : (c : Bool) → ltb (i - n) (size d.expression) ≡ c →
         (size d.expression ≤ i - n → holder_from w i (suc j) k ≡ owner_from (suc j) a (i - n - size d.expression)) →
-        cond (leb i (root_at w j)) (found.Definition j) (holder_from w i (suc j) k)
-        ≡ cond (ltb (i - n) (size d.expression)) (found.Definition j) (owner_from (suc j) a (i - n - size d.expression))
+        cond (leb i (root_at w j)) (Some j) (holder_from w i (suc j) k)
+        ≡ cond (ltb (i - n) (size d.expression)) (Some j) (owner_from (suc j) a (i - n - size d.expression))
     go true e f = let x : i - n < size d.expression = ltb-true _ _ e in rw (e, here x) refl
     go false e f = let x : size d.expression ≤ i - n = ltb-false _ _ e in rw (e, later x) (f x)
 
