@@ -5,7 +5,7 @@ use mathlib.Core.Path.{◌≡◌, refl, sym, ◌∙◌, ap}
 use mathlib.Core.Bool.{Bool, true, false}
 use mathlib.Core.List.{List, [], ◌∷◌, ◌++◌, append_assoc, append-nil}
 use lib.ListN.{length, get_or, drop, length-drop, drop_of_length-le}
-use lib.Seq.{slice, slice_empty, length-slice}
+use lib.Seq.{slice, length-slice}
 use lib.Dec.{leb}
 use borrow.Author.Tests.{lt-ltb, le-ltb, leb-true, leb-false}
 use Rattle.text.specs.Bytes.{continues_name}
@@ -27,9 +27,6 @@ module _ (class : ℕ → Bool) (s : List ℕ) where
   pub run_end : (at i : ℕ) → length s ≤ i → slice at i s ++ front_of class (drop i s) ≡ slice at i s
   unfolding front_of
   run_end at i h = rw (drop_of_length-le s h) (append-nil (slice at i s))
-
-  pub run_start : (at : ℕ) → front_of class (drop at s) ≡ slice at at s ++ front_of class (drop at s)
-  run_start at = rw (slice_empty at s) refl
 
 -- ---- the tokens behind one that ends at q
 
