@@ -10,7 +10,7 @@ use borrow.Author.Tests.{lt-leb}
 use Rattle.std.specs.Prelude.{Result, Ok, Err}
 use Rattle.syntax.specs.Tree.{string, own, other, literal, reference, size}
 use Rattle.syntax.specs.Token as T
-use Rattle.syntax.specs.Token.{Tokens, next, end, bad, Body, closed, broken, grown, body_of}
+use Rattle.syntax.specs.Token.{Tokens, next, end, bad}
 use Rattle.syntax.specs.declared.Refusal.{Refusal}
 use Rattle.syntax.specs.Reader.{on_word, on_token, misfit, count, conditional_at}
 use Rattle.syntax.specs.declared.Symbol.TheVariants.{Point}
