@@ -49,4 +49,4 @@ pub returns-in-Symbol-OpenParenthesis-default-clause-within : goal.returns-in-Sy
 returns-in-Symbol-OpenParenthesis-default-clause-within c =
     let t = (rw c.in-Symbol-OpenParenthesis-default.is at c.in_ok-token.ensures) in
     let g = stands_of c.args.text.now c.args.from.place _ _ _ t.lies.0 t.lies.1 t.lies.2 t.means_it in
-    (omega arith, t.lies.2, omega (arith, fewer_left c.args.text.now c.args.from.place _ _ _ g), refl)
+    (omega arith, t.lies.2, omega (arith, fewer_left c.args.text.now c.args.from.place _ _ _ g), refl {a = memory c.args.words.now c.args.bytes.now})
