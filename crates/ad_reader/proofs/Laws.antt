@@ -7,7 +7,7 @@ use lib.ListN.{length}
 use lib.Seq.{slice}
 use Rattle.syntax.specs.Tree.{Ad, size, nodes}
 use Rattle.syntax.specs.Token as T
-use Rattle.syntax.specs.Token.{Tokens, next, end, bad}
+use Rattle.syntax.specs.Token.{Tokens}
 use Rattle.syntax.specs.Reader as R
 use Rattle.syntax.specs.Reader.{misfit, end_a, limits, count, enough, definitions_at, behind_at, ad_at, parse}
 use Rattle.syntax.specs.declared.Symbol.TheVariants.{OpenBracket, CloseBracket, Semicolon}
