@@ -4,15 +4,16 @@
 ghost use Rattle.std.specs.Prelude.{◌≡◌};
 ghost use Rattle.c_reading.specs.Reading.{numbers_of, Reported};
 
-use ad_reader::Answer;
+use ad::Counts;
+use syntax::Refusal;
 
 // An answer as three numbers: 0, the definitions and the nodes; or the refusal's number, the byte's place and 0.
-fn numbers(answer: Answer) -> [u64; 3]
+fn numbers(answer: Result<Counts, Refusal>) -> [u64; 3]
     ensures { result ≡ numbers_of answer }
 {
     match answer {
-        Answer::Accepted(d, n) => [0, d as u64, n as u64],
-        Answer::Refused(k, p) => [k as u64, p as u64, 0],
+        Ok(counts) => [0, counts.definitions as u64, counts.nodes as u64],
+        Err(refusal) => [u64::from(refusal.reason.number()), refusal.place as u64, 0],
     }
 }
 

@@ -1,46 +1,57 @@
 // Reading: one definition, behind its name.
 #![tactic(auto)]
 
-ghost use Rattle.std.specs.Prelude.{◌+◌, ◌≤◌, ◌<◌};
-ghost use Rattle.leaves.specs.Inner.Marks.{mark, memory};
+ghost use Rattle.std.specs.Prelude.{◌≤◌, ◌<◌};
+ghost use Rattle.leaves.specs.Inner.Marks.{mark_at, memory};
 ghost use Rattle.definition_reader.specs.Inner.Post.{AdRoom, DefinitionOk, DefinitionWithin};
 
-use expressions::Read;
-use lookahead::SymbolAt;
-use syntax::Symbol;
+use ad::StoredAd;
+use leaves::Progress;
+use syntax::{Reason, Refusal, Symbol};
+use tokens::Span;
 
-// Definition d, whose Name stands from p up to q. The refusal, or where the readers are behind it.
+// Definition d, whose Name stands in front: so much is stored before it.
 pub fn read_definition(
     text: &[u8],
-    p: usize,
-    q: usize,
+    name: Span,
     d: usize,
-    n: usize,
-    k: usize,
+    from: Progress,
     words: &mut [u64],
     bytes: &mut [u8],
-) -> Read
-    requires { (p < q) × ((k ≤ p) × AdRoom text.now q d (mark n k) (memory words.old bytes.old)) }
-    ensures within { DefinitionWithin text.now q d result }
-    ensures exact { DefinitionOk text.now p q d (mark n k) (memory words.old bytes.old) (memory words.new bytes.new) result }
+) -> Result<Progress, Refusal>
+    requires { (name.start < name.end) × ((from.bytes ≤ name.start) × AdRoom text.now name.end d (mark_at from) (memory words.old bytes.old)) }
+    ensures within { DefinitionWithin text.now name.end d result }
+    ensures exact { DefinitionOk text.now name.start name.end d (mark_at from) (memory words.old bytes.old) (memory words.new bytes.new) result }
 {
-    if ad::defined(words, bytes, d, &text[p..q]) {
-        return Read::Refused(8, p);
+    let written = &text[name.start..name.end];
+    let stored = StoredAd { words, bytes };
+    if stored.defined(d, written) {
+        return Err(Refusal {
+            reason: Reason::DefinedTwice,
+            place: name.start,
+        });
     }
     if syntax::DEFINITIONS <= d {
-        return Read::Refused(9, p);
+        return Err(Refusal {
+            reason: Reason::TooMany,
+            place: name.start,
+        });
     }
-    match lookahead::symbol_at(text, q, Symbol::Assign) {
-        SymbolAt::Absent(y, x) => Read::Refused(y, x),
-        SymbolAt::Here(_, t) => {
-            ad::copy(text, p, q, bytes, k);
-            match expressions::read_conditional(text, t, 0, n, k + (q - p), 0, words, bytes) {
-                Read::Refused(y, x) => Read::Refused(y, x),
-                Read::Done(u, m, i) => {
-                    ad::store_definition(words, d, k as u64, (q - p) as u64, (m - 1) as u64);
-                    Read::Done(u, m, i)
-                }
-            }
-        }
-    }
+    let assign = lookahead::symbol_at(text, name.end, Symbol::Assign)?;
+    let n = name.end - name.start;
+    bytes[from.bytes..from.bytes + n].copy_from_slice(written);
+    let behind = Progress {
+        place: assign.end,
+        nodes: from.nodes,
+        bytes: from.bytes + n,
+    };
+    let done = expressions::read_conditional(text, behind, 0, 0, words, bytes)?;
+    ad::store_definition(
+        words,
+        d,
+        from.bytes as u64,
+        n as u64,
+        (done.nodes - 1) as u64,
+    );
+    Ok(done)
 }

@@ -1,52 +1,25 @@
 // The readers of expressions: conditional, binary levels, unary and primary call each other in a cycle.
 #![tactic(auto)]
 
-ghost use Rattle.std.specs.Prelude.{◌≡◌, ◌+◌, ◌≤◌, ◌<◌};
-ghost use Rattle.ad.specs.Layout.{unary_kind, binary_kind};
-ghost use Rattle.leaves.specs.Inner.Marks.{mark, memory, Room};
-ghost use Rattle.expressions.specs.Inner.Post.{Within, ConditionalOk, BinaryOk, UnaryOk, PrimaryOk, ArmsOk, RestOk};
+ghost use Rattle.std.specs.Prelude.{◌≤◌, ◌<◌};
+ghost use Rattle.leaves.specs.Inner.Marks.{mark_at, memory, Room};
+ghost use Rattle.expressions.specs.Inner.Post.{LevelFor, Within, ConditionalOk, BinaryOk, UnaryOk, PrimaryOk, ArmsOk, RestOk};
 
-use leaves::Leaf;
-use lookahead::{BinaryAt, SymbolAt, UnaryAt};
-use syntax::{Binary, Symbol, Unary};
+use ad::Kind;
+use leaves::{Leaf, Progress};
+use syntax::{Reason, Refusal, Symbol};
 
-#[derive(Clone, Copy)]
-pub enum Read {
-    // The place behind what was read, and how many nodes and bytes are stored then.
-    Done(usize, usize, usize),
-    // The refusal's number and place.
-    Refused(u8, usize),
-}
-
-fn binary_kind(j: Binary) -> u64
-    ensures { result ≡ binary_kind j }
+// Whether an expression may be a level deeper; what asks for it is at a place.
+fn deeper(depth: usize, place: usize) -> Result<(), Refusal>
+    ensures { LevelFor depth place result }
 {
-    match j {
-        Binary::Or => 13,
-        Binary::And => 14,
-        Binary::Equal => 15,
-        Binary::NotEqual => 16,
-        Binary::Is => 17,
-        Binary::Isnt => 18,
-        Binary::Less => 19,
-        Binary::LessOrEqual => 20,
-        Binary::Greater => 21,
-        Binary::GreaterOrEqual => 22,
-        Binary::Add => 23,
-        Binary::Subtract => 24,
-        Binary::Multiply => 25,
-        Binary::Divide => 26,
-        Binary::Remainder => 27,
-    }
-}
-
-fn unary_kind(o: Unary) -> u64
-    ensures { result ≡ unary_kind o }
-{
-    match o {
-        Unary::Not => 9,
-        Unary::Plus => 10,
-        Unary::Minus => 11,
+    if depth < syntax::LEVELS {
+        Ok(())
+    } else {
+        Err(Refusal {
+            reason: Reason::NestedTooDeep,
+            place,
+        })
     }
 }
 
@@ -54,206 +27,186 @@ fn unary_kind(o: Unary) -> u64
 #[cycle(expression)]
 pub fn read_conditional(
     text: &[u8],
-    at: usize,
+    from: Progress,
     depth: usize,
-    n: usize,
-    k: usize,
     begun: usize,
     words: &mut [u64],
     bytes: &mut [u8],
-) -> Read
-    requires { Room text.now at (mark n k) begun (memory words.old bytes.old) }
-    ensures within { Within text.now at 1 (mark n k) begun result }
-    ensures exact { ConditionalOk text.now at depth (mark n k) begun (memory words.old bytes.old) (memory words.new bytes.new) result }
+) -> Result<Progress, Refusal>
+    requires { Room text.now from.place (mark_at from) begun (memory words.old bytes.old) }
+    ensures within { Within text.now from.place 1 (mark_at from) begun result }
+    ensures exact { ConditionalOk text.now from.place depth (mark_at from) begun (memory words.old bytes.old) (memory words.new bytes.new) result }
 {
-    match read_binary(text, at, 1, depth, n, k, begun, words, bytes) {
-        Read::Refused(y, x) => Read::Refused(y, x),
-        Read::Done(q, m, i) => read_arms(text, q, depth, m, i, begun, words, bytes),
-    }
+    let operand = read_binary(text, from, 1, depth, begun, words, bytes)?;
+    read_arms(text, operand, depth, begun, words, bytes)
 }
 
 // Behind an operand: the arms of a conditional, where a `?` follows.
 #[cycle(expression)]
 fn read_arms(
     text: &[u8],
-    at: usize,
+    from: Progress,
     depth: usize,
-    n: usize,
-    k: usize,
     begun: usize,
     words: &mut [u64],
     bytes: &mut [u8],
-) -> Read
-    requires { (1 ≤ n) × Room text.now at (mark n k) begun (memory words.old bytes.old) }
-    ensures within { Within text.now at 0 (mark n k) begun result }
-    ensures exact { ArmsOk text.now at depth (mark n k) begun (memory words.old bytes.old) (memory words.new bytes.new) result }
+) -> Result<Progress, Refusal>
+    requires { (1 ≤ from.nodes) × Room text.now from.place (mark_at from) begun (memory words.old bytes.old) }
+    ensures within { Within text.now from.place 0 (mark_at from) begun result }
+    ensures exact { ArmsOk text.now from.place depth (mark_at from) begun (memory words.old bytes.old) (memory words.new bytes.new) result }
 {
-    match lookahead::symbol_at(text, at, Symbol::Question) {
-        SymbolAt::Absent(_, _) => Read::Done(at, n, k),
-        SymbolAt::Here(p, q) => {
-            if 64 <= depth { // level 65 at its `?`
-                return Read::Refused(6, p);
-            }
-            if syntax::NODES <= n + begun {
-                return Read::Refused(9, p);
-            }
-            match read_conditional(text, q, depth + 1, n, k, begun + 1, words, bytes) {
-                Read::Refused(y, x) => Read::Refused(y, x),
-                Read::Done(r, m, i) => match lookahead::symbol_at(text, r, Symbol::Colon) {
-                    SymbolAt::Absent(y, x) => Read::Refused(y, x),
-                    SymbolAt::Here(_, t) => {
-                        match read_conditional(text, t, depth + 1, m, i, begun + 1, words, bytes) {
-                            Read::Refused(y, x) => Read::Refused(y, x),
-                            Read::Done(u, z, v) => {
-                                ad::store_node(
-                                    words,
-                                    z,
-                                    12,
-                                    (n - 1) as u64,
-                                    (m - 1) as u64,
-                                    (z - 1) as u64,
-                                );
-                                Read::Done(u, z + 1, v)
-                            }
-                        }
-                    }
-                },
-            }
-        }
-    }
+    let Ok(question) = lookahead::symbol_at(text, from.place, Symbol::Question) else {
+        return Ok(from);
+    };
+    deeper(depth, question.start)?;
+    from.room(begun, question.start)?;
+    let behind = Progress {
+        place: question.end,
+        ..from
+    };
+    let first = read_conditional(text, behind, depth + 1, begun + 1, words, bytes)?;
+    let colon = lookahead::symbol_at(text, first.place, Symbol::Colon)?;
+    let behind = Progress {
+        place: colon.end,
+        ..first
+    };
+    let second = read_conditional(text, behind, depth + 1, begun + 1, words, bytes)?;
+    let (a, b, c) = (from.nodes - 1, first.nodes - 1, second.nodes - 1);
+    ad::store_node(
+        words,
+        second.nodes,
+        Kind::Conditional,
+        a as u64,
+        b as u64,
+        c as u64,
+    );
+    Ok(Progress {
+        nodes: second.nodes + 1,
+        ..second
+    })
 }
 
 // Operands of operators that bind at `level` or tighter. Level 7 is a unary expression.
 #[cycle(expression)]
 fn read_binary(
     text: &[u8],
-    at: usize,
+    from: Progress,
     level: usize,
     depth: usize,
-    n: usize,
-    k: usize,
     begun: usize,
     words: &mut [u64],
     bytes: &mut [u8],
-) -> Read
-    requires { (level ≤ 7) × Room text.now at (mark n k) begun (memory words.old bytes.old) }
-    ensures within { Within text.now at 1 (mark n k) begun result }
-    ensures exact { BinaryOk text.now at level depth (mark n k) begun (memory words.old bytes.old) (memory words.new bytes.new) result }
+) -> Result<Progress, Refusal>
+    requires { (level ≤ 7) × Room text.now from.place (mark_at from) begun (memory words.old bytes.old) }
+    ensures within { Within text.now from.place 1 (mark_at from) begun result }
+    ensures exact { BinaryOk text.now from.place level depth (mark_at from) begun (memory words.old bytes.old) (memory words.new bytes.new) result }
 {
     if 7 <= level {
-        return read_unary(text, at, depth, n, k, begun, words, bytes);
+        return read_unary(text, from, depth, begun, words, bytes);
     }
-    match read_binary(text, at, level + 1, depth, n, k, begun, words, bytes) {
-        Read::Refused(y, x) => Read::Refused(y, x),
-        Read::Done(q, m, i) => read_rest(text, q, level, depth, m, i, begun, words, bytes),
-    }
+    let operand = read_binary(text, from, level + 1, depth, begun, words, bytes)?;
+    read_rest(text, operand, level, depth, begun, words, bytes)
 }
 
 // Behind a left operand: the operators of the level that follow, which group to the left.
 #[cycle(expression)]
 fn read_rest(
     text: &[u8],
-    at: usize,
+    from: Progress,
     level: usize,
     depth: usize,
-    n: usize,
-    k: usize,
     begun: usize,
     words: &mut [u64],
     bytes: &mut [u8],
-) -> Read
-    requires { (level < 7) × ((1 ≤ n) × Room text.now at (mark n k) begun (memory words.old bytes.old)) }
-    ensures within { Within text.now at 0 (mark n k) begun result }
-    ensures exact { RestOk text.now at level depth (mark n k) begun (memory words.old bytes.old) (memory words.new bytes.new) result }
+) -> Result<Progress, Refusal>
+    requires { (level < 7) × ((1 ≤ from.nodes) × Room text.now from.place (mark_at from) begun (memory words.old bytes.old)) }
+    ensures within { Within text.now from.place 0 (mark_at from) begun result }
+    ensures exact { RestOk text.now from.place level depth (mark_at from) begun (memory words.old bytes.old) (memory words.new bytes.new) result }
 {
-    match lookahead::binary_at(text, at, level) {
-        BinaryAt::Absent => Read::Done(at, n, k),
-        BinaryAt::Here(j, p, q) => {
-            if syntax::NODES <= n + begun {
-                return Read::Refused(9, p);
-            }
-            match read_binary(text, q, level + 1, depth, n, k, begun + 1, words, bytes) {
-                Read::Refused(y, x) => Read::Refused(y, x),
-                Read::Done(r, m, i) => {
-                    let kind = binary_kind(j);
-                    ad::store_node(words, m, kind, (n - 1) as u64, (m - 1) as u64, 0);
-                    read_rest(text, r, level, depth, m + 1, i, begun, words, bytes)
-                }
-            }
-        }
-    }
+    let Some((operator, at)) = lookahead::binary_at(text, from.place, level) else {
+        return Ok(from);
+    };
+    from.room(begun, at.start)?;
+    let behind = Progress {
+        place: at.end,
+        ..from
+    };
+    let right = read_binary(text, behind, level + 1, depth, begun + 1, words, bytes)?;
+    let kind = Kind::Binary(operator);
+    ad::store_node(
+        words,
+        right.nodes,
+        kind,
+        (from.nodes - 1) as u64,
+        (right.nodes - 1) as u64,
+        0,
+    );
+    let left = Progress {
+        nodes: right.nodes + 1,
+        ..right
+    };
+    read_rest(text, left, level, depth, begun, words, bytes)
 }
 
+// An operator of one operand and that, or what binds tighter.
 #[cycle(expression)]
 fn read_unary(
     text: &[u8],
-    at: usize,
+    from: Progress,
     depth: usize,
-    n: usize,
-    k: usize,
     begun: usize,
     words: &mut [u64],
     bytes: &mut [u8],
-) -> Read
-    requires { Room text.now at (mark n k) begun (memory words.old bytes.old) }
-    ensures within { Within text.now at 1 (mark n k) begun result }
-    ensures exact { UnaryOk text.now at depth (mark n k) begun (memory words.old bytes.old) (memory words.new bytes.new) result }
+) -> Result<Progress, Refusal>
+    requires { Room text.now from.place (mark_at from) begun (memory words.old bytes.old) }
+    ensures within { Within text.now from.place 1 (mark_at from) begun result }
+    ensures exact { UnaryOk text.now from.place depth (mark_at from) begun (memory words.old bytes.old) (memory words.new bytes.new) result }
 {
-    match lookahead::unary_at(text, at) {
-        UnaryAt::Absent => read_primary(text, at, depth, n, k, begun, words, bytes),
-        UnaryAt::Here(o, p, q) => {
-            if 64 <= depth { // level 65 at its operator
-                return Read::Refused(6, p);
-            }
-            if syntax::NODES <= n + begun {
-                return Read::Refused(9, p);
-            }
-            match read_unary(text, q, depth + 1, n, k, begun + 1, words, bytes) {
-                Read::Refused(y, x) => Read::Refused(y, x),
-                Read::Done(r, m, i) => {
-                    let kind = unary_kind(o);
-                    ad::store_node(words, m, kind, (m - 1) as u64, 0, 0);
-                    Read::Done(r, m + 1, i)
-                }
-            }
-        }
-    }
+    let Some((operator, at)) = lookahead::unary_at(text, from.place) else {
+        return read_primary(text, from, depth, begun, words, bytes);
+    };
+    deeper(depth, at.start)?;
+    from.room(begun, at.start)?;
+    let behind = Progress {
+        place: at.end,
+        ..from
+    };
+    let operand = read_unary(text, behind, depth + 1, begun + 1, words, bytes)?;
+    let kind = Kind::Unary(operator);
+    ad::store_node(words, operand.nodes, kind, (operand.nodes - 1) as u64, 0, 0);
+    Ok(Progress {
+        nodes: operand.nodes + 1,
+        ..operand
+    })
 }
 
 // A literal, a reference, or an expression in parentheses.
 #[cycle(expression)]
 fn read_primary(
     text: &[u8],
-    at: usize,
+    from: Progress,
     depth: usize,
-    n: usize,
-    k: usize,
     begun: usize,
     words: &mut [u64],
     bytes: &mut [u8],
-) -> Read
-    requires { Room text.now at (mark n k) begun (memory words.old bytes.old) }
-    ensures within { Within text.now at 1 (mark n k) begun result }
-    ensures exact { PrimaryOk text.now at depth (mark n k) begun (memory words.old bytes.old) (memory words.new bytes.new) result }
+) -> Result<Progress, Refusal>
+    requires { Room text.now from.place (mark_at from) begun (memory words.old bytes.old) }
+    ensures within { Within text.now from.place 1 (mark_at from) begun result }
+    ensures exact { PrimaryOk text.now from.place depth (mark_at from) begun (memory words.old bytes.old) (memory words.new bytes.new) result }
 {
-    match leaves::leaf_at(text, at, n, k, begun, words, bytes) {
-        Leaf::Done(q, m, i) => Read::Done(q, m, i),
-        Leaf::Refused(y, x) => Read::Refused(y, x),
-        Leaf::Open(p, q) => {
-            if 64 <= depth { // level 65 at its `(`
-                return Read::Refused(6, p);
-            }
-            match read_conditional(text, q, depth + 1, n, k, begun, words, bytes) {
-                Read::Refused(y, x) => Read::Refused(y, x),
-                Read::Done(r, m, i) => match lookahead::symbol_at(
-                    text,
-                    r,
-                    Symbol::CloseParenthesis,
-                ) {
-                    SymbolAt::Absent(y, x) => Read::Refused(y, x),
-                    SymbolAt::Here(_, t) => Read::Done(t, m, i),
-                },
-            }
-        }
-    }
+    let open = match leaves::leaf_at(text, from, begun, words, bytes)? {
+        Leaf::Done(done) => return Ok(done),
+        Leaf::Open(open) => open,
+    };
+    deeper(depth, open.start)?;
+    let behind = Progress {
+        place: open.end,
+        ..from
+    };
+    let inner = read_conditional(text, behind, depth + 1, begun, words, bytes)?;
+    let close = lookahead::symbol_at(text, inner.place, Symbol::CloseParenthesis)?;
+    Ok(Progress {
+        place: close.end,
+        ..inner
+    })
 }

@@ -2,10 +2,11 @@
 use Prim.Native.Nat.{ℕ, ◌+◌, ◌-◌, ◌≤◌, ◌<◌}
 use native.Mathlib.Omega.{arith}
 use mathlib.Core.Path.{◌≡◌, refl, sym, ◌∙◌, ap}
-use mathlib.Core.Bool.{true, false}
+use mathlib.Core.Bool.{Bool, true, false}
+use lib.Dec.{leb}
 use mathlib.Core.List.{List, [], ◌∷◌, ◌++◌, append_assoc, append-nil}
 use lib.ListN.{length, get_or, drop, length-append, drop_of_length-le}
-use borrow.Author.Tests.{lt-ltb, le-ltb, le-leb, lt-leb, eq-eqb, ne_eqb}
+use borrow.Author.Tests.{leb-true, leb-false, lt-ltb, le-ltb, le-leb, lt-leb, eq-eqb, ne_eqb}
 use Rattle.text.specs.Bytes.{is_blank, is_digit, starts_name}
 use Rattle.text.specs.Parts.{drop_one}
 use Rattle.syntax.specs.Tree.{string}
@@ -13,7 +14,9 @@ use Rattle.syntax.specs.Token as T
 use Rattle.syntax.specs.Token.{next, end, bad, good, wrong, Body, closed, broken, grown, body_of, escape_of, string_of, number_front, name_front, symbol_in, spellings, front_token, tokens_from}
 use Rattle.tokens.specs.declared.Token as K
 use Rattle.tokens.specs.declared.Token.TheVariants as KV
-use Rattle.tokens.specs.Inner.Meaning.{Span, tokens_at, placed, string_at}
+use Rattle.std.specs.Prelude.{Result, Ok, Err}
+use Rattle.syntax.specs.declared.Refusal.{Refusal}
+use Rattle.tokens.specs.Inner.Meaning.{LiesIfRead, tokens_at, placed, string_at}
 use Rattle.tokens.proofs.Laws.{behind}
 use Rattle.lexer.specs.Inner.Meaning.{AtBackslash}
 
@@ -33,10 +36,6 @@ prepend xs n broken = broken
 both : {xs ys : List ℕ} {m n : ℕ} → xs ≡ ys → m ≡ n → closed xs m ≡ closed ys n
 both p q = λ i. closed (p i) (q i)
 
-pub prepend_none : (b : Body) → b ≡ prepend [] 0 b
-prepend_none (closed ys k) = let e : k ≡ 0 + k = omega arith in both refl e
-prepend_none broken = refl
-
 pub prepend_grown : (xs : List ℕ) (n b m k : ℕ) (y : Body) → n + m ≡ k → prepend xs n (grown b m y) ≡ prepend (xs ++ b ∷ []) k y
 prepend_grown xs n b m k (closed ys j) h = let e : n + (m + j) ≡ k + j = omega arith in both (sym (append_assoc xs (b ∷ []) ys)) e
 prepend_grown xs n b m k broken h = refl
@@ -46,18 +45,12 @@ abbrev pub Gone : List ℕ → ℕ → ℕ → ℕ → Type 0
 Gone s at i n = (xs : List ℕ) × (length xs ≡ n) × (body_of (drop at s) ≡ prepend xs (i - at) (body_of (drop i s)))
 
 module _ (s : List ℕ) (at : ℕ) where
-  pub gone_start : Gone s at at 0
-  gone_start = let e : 0 ≡ at - at = omega arith in ([], refl, prepend_none (body_of (drop at s)) ∙ ap (λ (k : ℕ). prepend [] k (body_of (drop at s))) e)
-
   module _ (i n : ℕ) (h : at ≤ i) (g : Gone s at i n) where
     pub gone_byte : (b q : ℕ) → i < q → body_of (drop i s) ≡ grown b (q - i) (body_of (drop q s)) → Gone s at q (n + 1)
     gone_byte b q h' e = (g.0 ++ b ∷ [], simp length-append (omega (arith, g.1)), g.2 ∙ rw e (prepend_grown g.0 (i - at) b (q - i) (q - at) (body_of (drop q s)) (omega arith)))
 
     pub gone_close : body_of (drop i s) ≡ closed [] 1 → (xs : List ℕ) × (length xs ≡ n) × (body_of (drop at s) ≡ closed xs (i + 1 - at))
     gone_close e = let k : i - at + 1 ≡ i + 1 - at = omega arith in (g.0, g.1, g.2 ∙ rw e (both (append-nil g.0) k))
-
-    pub gone_broken : body_of (drop i s) ≡ broken → body_of (drop at s) ≡ broken
-    gone_broken e = g.2 ∙ rw e refl
 
 module _ (s : List ℕ) (i : ℕ) where
   pub string_none : length s ≤ i → body_of (drop i s) ≡ broken
@@ -84,6 +77,17 @@ module _ (s : List ℕ) (i : ℕ) where
           let one : 1 ≡ i + 1 - i = omega arith in
           rw (drop_one s i h, ne_eqb (get_or s i 0) 34 h₁, ne_eqb (get_or s i 0) 92 h₂, le-leb 32 (get_or s i 0) l, le-leb (get_or s i 0) 126 e)
           (ap (λ (k : ℕ). grown (get_or s i 0) k (body_of (drop (i + 1) s))) one)
+
+-- a string ends within the text
+pub string_inside : (s : List ℕ) (i : ℕ) → body_of (drop i s) ≡ closed [] 1 → i < length s
+string_inside s i e = go (leb (length s) i) refl
+  where
+    go : (t : Bool) → leb (length s) i ≡ t → i < length s
+    go true t =
+        let z : closed [] 1 ≡ broken = sym e ∙ string_none s i (leb-true (length s) i t) in
+        let y : ⊥ = cc in
+        absurd y
+    go false t = leb-false (length s) i t
 
 pub escaped_none : (s : List ℕ) (i : ℕ) → AtBackslash s i → length s ≤ i + 1 → body_of (drop i s) ≡ broken
 unfolding body_of
@@ -157,11 +161,11 @@ module _ (s : List ℕ) (p : ℕ) where
         unfolding front_token
         scan_symbol e = from_front ∙ rw (n, d, ne_eqb (get_or s p 0) 34 e, drop_one s p h) refl
 
-pub span_from : (s : List ℕ) (at p : ℕ) (t : K.Token) → at ≤ p → Span s p t → Span s at t
-span_from s at p (KV.End q) h x = tt
-span_from s at p (KV.Bad k q) h x = tt
-span_from s at p (KV.Word q r) h x = (omega arith, x.1, x.2)
-span_from s at p (KV.Constant c q r) h x = (omega arith, x.1, x.2)
-span_from s at p (KV.String n q r) h x = (omega arith, x.1, x.2, x.3, x.4)
-span_from s at p (KV.Operator j q r) h x = (omega arith, x.1, x.2)
-span_from s at p (KV.Symbol y q r) h x = (omega arith, x.1, x.2)
+pub lies_from : (s : List ℕ) (at p : ℕ) (r : Result K.Token Refusal) → at ≤ p → LiesIfRead s p r → LiesIfRead s at r
+lies_from s at p (Ok (KV.End q)) h x = tt
+lies_from s at p (Ok (KV.Word w)) h x = (omega arith, x.1, x.2)
+lies_from s at p (Ok (KV.Constant c w)) h x = (omega arith, x.1, x.2)
+lies_from s at p (Ok (KV.String n w)) h x = (omega arith, x.1, x.2, x.3, x.4)
+lies_from s at p (Ok (KV.Operator j w)) h x = (omega arith, x.1, x.2)
+lies_from s at p (Ok (KV.Symbol y w)) h x = (omega arith, x.1, x.2)
+lies_from s at p (Err r) h x = tt

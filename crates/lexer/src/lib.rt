@@ -1,27 +1,27 @@
 // The token at a place of a text.
 #![tactic(auto)]
 
-ghost use Rattle.std.specs.Prelude.{◌≡◌, ◌+◌, ◌≤◌, ◌<◌, length, drop};
-ghost use Rattle.syntax.specs.Token.{escape_of, string_of, body_of, symbol_in, spellings};
+ghost use Rattle.std.specs.Prelude.{◌+◌, ◌≤◌, ◌<◌, length, drop};
+ghost use Rattle.syntax.specs.Token.{string_of, body_of, symbol_in, spellings};
 ghost use Rattle.tokens.specs.Inner.Meaning.{Placed};
-ghost use Rattle.lexer.specs.Inner.Meaning.{Skipped, AtBackslash, AtToken, StepMeans, EndMeans, Scanned};
+ghost use Rattle.lexer.specs.Inner.Meaning.{Skipped, Escapes, AtBackslash, AtToken, StepMeans, EndMeans, Scanned};
 
 use signs::Sign;
-use tokens::Token;
+use syntax::{Reason, Refusal};
+use tokens::{Span, Token};
 
-// What stands at a place inside a string: its end, a byte and the place behind it, or what no string can hold.
-#[derive(Clone, Copy)]
+// What stands at a place inside a string: its end, or a byte and the place behind it.
+#[derive(Clone, Copy, PartialEq, Eq)]
 pub enum StringStep {
     Close,
     Byte(u8, usize),
-    Broken,
 }
 
 // A string behind its opening quote: how many bytes it has, and the place behind its closing quote.
 #[derive(Clone, Copy)]
-pub enum StringEnd {
-    Closed(usize, usize),
-    Broken,
+struct StringEnd {
+    length: usize,
+    end: usize,
 }
 
 // The first byte at or after `at` that is no blank.
@@ -29,133 +29,125 @@ fn skip(text: &[u8], at: usize) -> usize
     requires { at ≤ length text.now }
     ensures { Skipped text.now at result }
 {
-    let mut i = at;
-    while i < text.len() {
-        if text::is_blank(text[i]) {
-            i += 1;
-        } else {
+    for i in at..text.len() {
+        if !text::is_blank(text[i]) {
             return i;
         }
     }
-    i
+    text.len()
 }
 
-// What the byte after a backslash stands for; 0 for nothing.
-fn escape(b: u8) -> u8
-    ensures { result ≡ escape_of b }
+// What the byte after a backslash stands for.
+#[tactic(auto, unfolding(syntax::specs::Token::escape_of))]
+fn escape(b: u8) -> Option<u8>
+    ensures { Escapes b result }
 {
-    if b == b'"' {
-        b'"'
-    } else if b == b'\\' {
-        b'\\'
-    } else if b == b'n' {
-        b'\n'
-    } else if b == b't' {
-        b'\t'
-    } else {
-        0
+    match b {
+        b'"' => Some(b'"'),
+        b'\\' => Some(b'\\'),
+        b'n' => Some(b'\n'),
+        b't' => Some(b'\t'),
+        _ => None,
     }
 }
 
-// What stands at a backslash at `i` inside a string.
-fn escaped_step(text: &[u8], i: usize) -> StringStep
+// What stands at a backslash at `i` inside a string; nothing where no string can hold it.
+fn escaped_step(text: &[u8], i: usize) -> Option<StringStep>
     requires { AtBackslash text.now i }
     ensures { StepMeans text.now i result }
 {
-    if text.len() <= i + 1 {
-        return StringStep::Broken;
-    }
-    let b = escape(text[i + 1]);
-    if b == 0 {
-        return StringStep::Broken;
-    }
-    StringStep::Byte(b, i + 2)
+    let b = escape(*text.get(i + 1)?)?;
+    Some(StringStep::Byte(b, i + 2))
 }
 
-// What stands at `i` inside a string.
-pub fn string_step(text: &[u8], i: usize) -> StringStep
+// What stands at `i` inside a string; nothing where no string can hold it.
+pub fn string_step(text: &[u8], i: usize) -> Option<StringStep>
     requires { i ≤ length text.now }
     ensures { StepMeans text.now i result }
 {
-    if text.len() <= i {
-        return StringStep::Broken;
+    let b = *text.get(i)?;
+    match b {
+        b'"' => Some(StringStep::Close),
+        b'\\' => escaped_step(text, i),
+        b' '..=b'~' => Some(StringStep::Byte(b, i + 1)),
+        _ => None,
     }
-    let b = text[i];
-    if b == b'"' {
-        return StringStep::Close;
-    }
-    if b == b'\\' {
-        return escaped_step(text, i);
-    }
-    if b < b' ' {
-        return StringStep::Broken;
-    }
-    if b'~' < b {
-        return StringStep::Broken;
-    }
-    StringStep::Byte(b, i + 1)
 }
 
 // The string behind an opening quote, from `at` on.
-fn string_end(text: &[u8], at: usize) -> StringEnd
+fn string_end(text: &[u8], at: usize) -> Option<StringEnd>
     requires { at ≤ length text.now }
     ensures { EndMeans text.now at result }
 {
     let mut i = at;
-    let mut n = 0;
-    while i < text.len() {
-        match string_step(text, i) {
-            StringStep::Close => {
-                return StringEnd::Closed(n, i + 1);
-            }
-            StringStep::Broken => {
-                return StringEnd::Broken;
-            }
-            StringStep::Byte(_, q) => {
-                i = q;
-                n += 1;
-            }
-        }
+    let mut length = 0;
+    while let StringStep::Byte(_, next) = string_step(text, i)? {
+        i = next;
+        length += 1;
     }
-    StringEnd::Broken
+    Some(StringEnd { length, end: i + 1 })
 }
 
-// A string whose opening quote is at `p`.
-fn string(text: &[u8], p: usize) -> Token
-    requires { p < length text.now }
-    ensures { Placed text.now p (string_of (body_of (drop (p + 1) text.now))) result }
+// A string whose opening quote is at `start`.
+fn string(text: &[u8], start: usize) -> Result<Token, Refusal>
+    requires { start < length text.now }
+    ensures { Placed text.now start (string_of (body_of (drop (start + 1) text.now))) result }
 {
-    match string_end(text, p + 1) {
-        StringEnd::Broken => Token::Bad(3, p),
-        StringEnd::Closed(n, q) => {
-            if syntax::STRING_BYTES < n {
-                Token::Bad(7, p)
-            } else {
-                Token::String(n, p, q)
-            }
-        }
+    let Some(found) = string_end(text, start + 1) else {
+        return Err(Refusal {
+            reason: Reason::NoToken,
+            place: start,
+        });
+    };
+    if syntax::STRING_BYTES < found.length {
+        return Err(Refusal {
+            reason: Reason::TokenTooLong,
+            place: start,
+        });
     }
+    Ok(Token::String(
+        found.length,
+        Span {
+            start,
+            end: found.end,
+        },
+    ))
 }
 
-// A symbol or operator at `p`.
-fn symbol_token(text: &[u8], p: usize) -> Token
-    requires { p < length text.now }
-    ensures { Placed text.now p (symbol_in spellings (drop p text.now)) result }
+// A symbol or operator at `start`.
+fn symbol_token(text: &[u8], start: usize) -> Result<Token, Refusal>
+    requires { start < length text.now }
+    ensures { Placed text.now start (symbol_in spellings (drop start text.now)) result }
 {
-    match signs::sign_at(text, p) {
-        Sign::Operator(j, n) => Token::Operator(j, p, p + n),
-        Sign::Symbol(x, n) => Token::Symbol(x, p, p + n),
-        Sign::Nothing => Token::Bad(3, p),
+    match signs::sign_at(text, start) {
+        Some(Sign::Operator(j, n)) => Ok(Token::Operator(
+            j,
+            Span {
+                start,
+                end: start + n,
+            },
+        )),
+        Some(Sign::Symbol(x, n)) => Ok(Token::Symbol(
+            x,
+            Span {
+                start,
+                end: start + n,
+            },
+        )),
+        None => Err(Refusal {
+            reason: Reason::NoToken,
+            place: start,
+        }),
     }
 }
 
 // The token at `p`, which is no blank.
-fn token_from(text: &[u8], p: usize) -> Token
+fn token_from(text: &[u8], p: usize) -> Result<Token, Refusal>
     requires { AtToken text.now p }
     ensures { Scanned text.now p result }
 {
     if text.len() <= p {
-        return Token::End(p);
+        return Ok(Token::End(p));
     }
     let b = text[p];
     if text::starts_name(b) {
@@ -171,7 +163,7 @@ fn token_from(text: &[u8], p: usize) -> Token
 }
 
 // The token at or after `at`.
-pub fn token_at(text: &[u8], at: usize) -> Token
+pub fn token_at(text: &[u8], at: usize) -> Result<Token, Refusal>
     requires { at ≤ length text.now }
     ensures { Scanned text.now at result }
 {

@@ -11,7 +11,7 @@ use borrow.Author.Tests.{lt-ltb, le-ltb, ne_eqb, leb-true, leb-false}
 use Rattle.syntax.proofs.Laws.FrontTokens.{value_append, every_append, front_every, fraction_every, real_small}
 use Rattle.syntax.specs.Inner.Lexeme.{every}
 use Rattle.text.specs.Bytes.{is_digit}
-use Rattle.text.specs.Parts.{drop_one, slice_back, slice_one, drop_behind}
+use Rattle.text.specs.Parts.{drop_one, slice_back, drop_behind}
 use Rattle.syntax.specs.Tree.{integer, real}
 use Rattle.syntax.specs.Token as T
 use Rattle.syntax.specs.Token.{next, bad, pick, value_from, value_of, fraction_of, integer_front, real_front, number_front}
@@ -33,13 +33,13 @@ value_capped v ds = go (leb v largest_read) refl
     go true t = let e : min v largest_read ≡ v = omega (arith, leb-true v largest_read t) in ap (λ (w : ℕ). value_to w ds) e
     go false t = let e : min v largest_read ≡ largest_read = omega (arith, leb-false v largest_read t) in ap (λ (w : ℕ). value_to w ds) e ∙ omega (arith, leb-false v largest_read t, value_grows v ds, value_grows largest_read ds)
 
-pub value_step : (s : List ℕ) (i q w : ℕ) → i < q → q ≤ length s → value_to (min (w * 10 + (get_or s i 0 - 48)) largest_read) (slice (i + 1) q s) ≡ value_to w (slice i q s)
+pub value_step : (ds : List ℕ) (i w : ℕ) → i < length ds → value_to (min (w * 10 + (get_or ds i 0 - 48)) largest_read) (drop (i + 1) ds) ≡ value_to w (drop i ds)
 unfolding value_from
-value_step s i q w h h' = rw (slice_one s i q h h') (value_capped (w * 10 + (get_or s i 0 - 48)) (slice (i + 1) q s))
+value_step ds i w h = rw (drop_one ds i h) (value_capped (w * 10 + (get_or ds i 0 - 48)) (drop (i + 1) ds))
 
-pub value_end : (s : List ℕ) (i q w : ℕ) → i ≤ q → q ≤ i → w ≤ largest_read → w ≡ value_to w (slice i q s)
+pub value_end : (ds : List ℕ) (i w : ℕ) → length ds ≤ i → w ≤ largest_read → w ≡ value_to w (drop i ds)
 unfolding value_from
-value_end s i q w h h' h'' = rw (slice_back s i q h') (omega arith)
+value_end ds i w h h' = rw (drop_of_length-le ds h) (omega arith)
 
 -- up to 15 digits the largest number read does not show
 pub value_exact : (ds fs : List ℕ) → every is_digit ds ≡ true → every is_digit fs ≡ true → length ds + length fs ≤ 15 → value_to (value_to 0 ds) fs ≡ value_of (ds ++ fs)

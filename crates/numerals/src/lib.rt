@@ -1,44 +1,38 @@
 // Numbers as tokens.
 #![tactic(auto)]
 
-ghost use Rattle.std.specs.Prelude.{◌≡◌, true, ◌+◌, ◌-◌, ◌*◌, ◌≤◌, min, length, drop};
-ghost use Rattle.std.proofs.Math.Seq.{slice};
+ghost use Rattle.std.specs.Prelude.{◌≡◌, ◌+◌, ◌-◌, ◌*◌, ◌≤◌, min, length, drop};
 ghost use Rattle.syntax.specs.Token.{number_front};
 ghost use Rattle.tokens.specs.Inner.Meaning.{AtByte, class_of, Placed};
+ghost use Rattle.tokens.specs.declared.Class.TheVariants.{Digits};
 ghost use Rattle.numerals.specs.Inner.Meaning.{Fraction, largest_read, value_to};
 
-use tokens::{Constant, Token};
+use syntax::{Reason, Refusal};
+use tokens::{Class, Constant, Span, Token};
 
-// What a digit counts.
-fn digit(b: u8) -> u64
-    ensures { result ≡ b - 48 }
-{
-    if b < b'0' { 0 } else { (b - b'0') as u64 }
-}
+const LARGEST_INTEGER: u64 = 2147483647;
+
+const REAL_DIGITS: usize = 15;
+
+// The largest number that is told apart: it has over 15 digits, and is over the range of an Integer.
+const LARGEST_READ: u64 = 1000000000000000;
 
 // One digit more, but no more than the largest, which keeps the number small.
 fn push(v: u64, b: u8) -> u64
     requires { v ≤ largest_read }
     ensures { result ≡ min (v * 10 + (b - 48)) largest_read }
 {
-    let w = v * 10 + digit(b);
-    if w <= 1000000000000000 {
-        w
-    } else {
-        1000000000000000
-    }
+    (v * 10 + u64::from(b.saturating_sub(b'0'))).min(LARGEST_READ)
 }
 
-// The digits from `p` up to `q`, read after `v`.
-fn value(text: &[u8], p: usize, q: usize, v: u64) -> u64
-    requires { (p ≤ q) × (q ≤ length text.now) × (v ≤ largest_read) }
-    ensures { result ≡ value_to v (slice p q text.now) }
+// The digits, read after `v`.
+fn value(digits: &[u8], v: u64) -> u64
+    requires { v ≤ largest_read }
+    ensures { result ≡ value_to v digits.now }
 {
-    let mut i = p;
     let mut w = v;
-    while i < q {
-        w = push(w, text[i]);
-        i += 1;
+    for b in digits {
+        w = push(w, *b);
     }
     w
 }
@@ -48,35 +42,37 @@ fn fraction(text: &[u8], at: usize) -> usize
     requires { at ≤ length text.now }
     ensures { Fraction text.now at result }
 {
-    if at < text.len() {
-        if text[at] == b'.' {
-            let end = tokens::run(text, at + 1, true);
-            if at + 1 < end {
-                return end;
-            }
+    if at < text.len() && text[at] == b'.' {
+        let end = tokens::run(text, at + 1, Class::Digits);
+        if at + 1 < end {
+            return end;
         }
     }
     at
 }
 
-// An Integer or Real whose first digit is at `p`.
-pub fn number(text: &[u8], p: usize) -> Token
-    requires { AtByte (class_of true) text.now p }
-    ensures { Placed text.now p (number_front (drop p text.now)) result }
+// An Integer or Real whose first digit is at `start`.
+pub fn number(text: &[u8], start: usize) -> Result<Token, Refusal>
+    requires { AtByte (class_of Digits) text.now start }
+    ensures { Placed text.now start (number_front (drop start text.now)) result }
 {
-    let q = tokens::run(text, p, true);
-    let v = value(text, p, q, 0);
-    let end = fraction(text, q);
-    if end <= q {
-        if 2147483647 < v {
-            return Token::Bad(5, p);
+    let too_large = Refusal {
+        reason: Reason::NumberTooLarge,
+        place: start,
+    };
+    let point = tokens::run(text, start, Class::Digits);
+    let whole = value(&text[start..point], 0);
+    let end = fraction(text, point);
+    if end <= point {
+        if LARGEST_INTEGER < whole {
+            return Err(too_large);
         }
-        return Token::Constant(Constant::Integer(v), p, q);
+        return Ok(Token::Constant(Constant::Integer(whole), Span { start, end: point }));
     }
-    let places = end - q - 1;
-    if 15 < q - p + places {
-        return Token::Bad(5, p);
+    let places = end - point - 1;
+    if REAL_DIGITS < point - start + places {
+        return Err(too_large);
     }
-    let digits = value(text, q + 1, end, v);
-    Token::Constant(Constant::Real(digits, places as u64), p, end)
+    let digits = value(&text[point + 1..end], whole);
+    Ok(Token::Constant(Constant::Real(digits, places as u64), Span { start, end }))
 }

@@ -1,14 +1,14 @@
 -- What the whole reader answers and leaves. Assumes nothing.
-use Prim.Native.Nat.{ℕ, zero, suc, ◌+◌, ◌-◌, ◌≤◌, ◌<◌}
+use Prim.Native.Nat.{ℕ, zero, suc, ◌+◌, ◌-◌, ◌≤◌}
 use native.Mathlib.Omega.{arith}
 use native.Mathlib.Nat.{zero-add}
 use mathlib.Core.Path.{◌≡◌, refl, sym, ◌∙◌, ap}
+use Rattle.std.proofs.Common.{true≢false, true, false}
 use mathlib.Core.List.{List, ◌++◌, append_assoc}
 use lib.ListN.{length, take, drop, replicate, length-append, length-replicate, replicate-append-replicate}
 use lib.Seq.{sets, sets-eq, take_at, drop-append-add}
-use borrow.Author.Tests.{lt-ltb, le-ltb}
+use borrow.Author.Tests.{le-ltb}
 use Rattle.ad.specs.Laws.Content.{length_ad, length_entries}
-use Rattle.syntax.specs.Reader as R
 use Rattle.syntax.specs.Reader.{parse, read}
 use Rattle.syntax.proofs.Laws.Accepts.{accepts}
 use Rattle.ad.specs.Layout.{padded, ad_nodes, ad_definitions, ad_bytes, stored_words, stored_bytes}
@@ -16,8 +16,11 @@ use Rattle.leaves.specs.Inner.Marks.{Memory, memory}
 use Rattle.reader.specs.Content.{answer, words_after, bytes_after, Answered}
 use Rattle.reader.specs.Inner.Leaving.{Left, Cleared}
 use Rattle.ad_reader.specs.Inner.Post.{AgreesAd}
-use Rattle.ad_reader.specs.declared.Answer.{Answer}
-use Rattle.ad_reader.specs.declared.Answer.TheVariants.{Accepted, Refused}
+use Rattle.ad.specs.declared.Counts.{Counts}
+use Rattle.std.specs.Prelude.{Result, Ok, Err}
+use Rattle.std.specs.Result.{is_err}
+use Rattle.syntax.specs.declared.Refusal.{Refusal}
+use Rattle.syntax.proofs.Laws.Numbered.{refusal_numbered}
 
 zeros : {i j : ℕ} → i ≡ j → replicate {A = ℕ} i 0 ≡ replicate j 0
 zeros e = ap (λ (k : ℕ). replicate {A = ℕ} k 0) e
@@ -59,9 +62,10 @@ pad_both xs ys p r h h' =
 
 module _ (s w₀ b₀ w' b' : List ℕ) (hw : w₀ ≡ replicate 4864 0) (hb : b₀ ≡ replicate 16384 0) where
   -- accepted over cleared memory
-  pub into_ad : (d n : ℕ) → AgreesAd (memory w₀ b₀) (memory w' b') (parse s) (Accepted d n) → Left (parse s) w' b' (Accepted d n)
+  pub into_ad : (r : Result Counts Refusal) → is_err r ≡ false → AgreesAd (memory w₀ b₀) (memory w' b') (parse s) r → Left (parse s) w' b' r
   unfolding stored_words stored_bytes
-  into_ad d n (a, e, hd, hn, hm, hl) =
+  into_ad (Err r) f h = absurd (true≢false f)
+  into_ad (Ok c) f (a, e, hd, hn, hm, hl) =
       let k = ((accepts s a).0 e).3 in
       let l₀ : length b₀ ≡ 16384 = ap length hb ∙ length-replicate {A = ℕ} 16384 0 in
       let f₁ : length (ad_nodes 0 0 a) ≤ 4096 = omega (arith, length_ad 0 0 a, k.few_nodes) in
@@ -75,36 +79,25 @@ module _ (s w₀ b₀ w' b' : List ℕ) (hw : w₀ ≡ replicate 4864 0) (hb : b
         bytes = rw e (m₂ ∙ rw hb (pad (ad_bytes a) 16384 f₃));
       }
 
+same_err : {r q : Refusal} → r ≡ q → ◌≡◌ {A = Result Counts Refusal} (Err r) (Err q)
+same_err e = λ i. Err (e i)
+
 -- refused, and cleared again
-pub into_none : (s w b w' b' : List ℕ) (k p : ℕ) (r : Answer) → parse s ≡ R.denied k p → Cleared w b w' b' k p r → length w ≡ 4864 → length b ≡ 16384 → Left (parse s) w' b' r
-into_none s w b w' b' k p r e h hw hb = record {
-  answers = rw e h.answers;
-  words = rw e (h.words ∙ zeros hw);
-  bytes = rw e (h.bytes ∙ zeros hb);
+pub into_none : (s w₀ b₀ w b w' b' : List ℕ) (r : Result Counts Refusal) → is_err r ≡ true → AgreesAd (memory w₀ b₀) (memory w b) (parse s) r → Cleared w b w' b' → length w ≡ 4864 → length b ≡ 16384 → Left (parse s) w' b' r
+into_none s w₀ b₀ w b w' b' (Ok c) f h z hw hb = absurd (true≢false (sym f))
+into_none s w₀ b₀ w b w' b' (Err r) f h z hw hb = record {
+  answers = rw h (same_err (refusal_numbered r));
+  words = rw h (z.words ∙ zeros hw);
+  bytes = rw h (z.bytes ∙ zeros hb);
 }
 
-module _ (s w b : List ℕ) where
-  pub small_words : length w < 4864 → Answered s w b w b (Refused 1 0)
-  unfolding answer words_after bytes_after
-  small_words h = record { answers = rw (lt-ltb (length w) 4864 h) refl; words = rw (lt-ltb (length w) 4864 h) refl; bytes = rw (lt-ltb (length w) 4864 h) refl }
-
-  module _ (h : 4864 ≤ length w) where
-    pub small_bytes : length b < 16384 → Answered s w b w b (Refused 1 0)
-    unfolding answer words_after bytes_after
-    small_bytes h' = record { answers = rw (le-ltb (length w) 4864 h, lt-ltb (length b) 16384 h') refl; words = rw (le-ltb (length w) 4864 h, lt-ltb (length b) 16384 h') refl; bytes = rw (le-ltb (length w) 4864 h, lt-ltb (length b) 16384 h') refl }
-
-    module _ (h' : 16384 ≤ length b) where
-      pub long_text : 16384 < length s → Answered s w b w b (Refused 2 0)
-      unfolding answer words_after bytes_after read
-      long_text h'' = record { answers = rw (le-ltb (length w) 4864 h, le-ltb (length b) 16384 h', lt-ltb 16384 (length s) h'') refl; words = rw (le-ltb (length w) 4864 h, le-ltb (length b) 16384 h', lt-ltb 16384 (length s) h'') refl; bytes = rw (le-ltb (length w) 4864 h, le-ltb (length b) 16384 h', lt-ltb 16384 (length s) h'') refl }
-
-      pub whole_text : (w' b' : List ℕ) (r : Answer) → length s ≤ 16384 → Left (parse s) w' b' r → Answered s w b (w' ++ drop 4864 w) (b' ++ drop 16384 b) r
-      unfolding answer words_after bytes_after read
-      whole_text w' b' r h'' l = record {
-        answers = rw (le-ltb (length w) 4864 h, le-ltb (length b) 16384 h', le-ltb 16384 (length s) h'') l.answers;
-        words = rw (le-ltb (length w) 4864 h, le-ltb (length b) 16384 h', le-ltb 16384 (length s) h'') (ap (λ (x : List ℕ). x ++ drop 4864 w) l.words);
-        bytes = rw (le-ltb (length w) 4864 h, le-ltb (length b) 16384 h', le-ltb 16384 (length s) h'') (ap (λ (x : List ℕ). x ++ drop 16384 b) l.bytes);
-      }
+pub whole_text : (s w b w' b' : List ℕ) (r : Result Counts Refusal) → 4864 ≤ length w → 16384 ≤ length b → length s ≤ 16384 → Left (parse s) w' b' r → Answered s w b (w' ++ drop 4864 w) (b' ++ drop 16384 b) r
+unfolding answer words_after bytes_after read
+whole_text s w b w' b' r h h' h'' l = record {
+  answers = rw (le-ltb (length w) 4864 h, le-ltb (length b) 16384 h', le-ltb 16384 (length s) h'') l.answers;
+  words = rw (le-ltb (length w) 4864 h, le-ltb (length b) 16384 h', le-ltb 16384 (length s) h'') (ap (λ (x : List ℕ). x ++ drop 4864 w) l.words);
+  bytes = rw (le-ltb (length w) 4864 h, le-ltb (length b) 16384 h', le-ltb 16384 (length s) h'') (ap (λ (x : List ℕ). x ++ drop 16384 b) l.bytes);
+}
 
 -- so many zeros
 pub cleared : (l l' : List ℕ) (n : ℕ) → l' ≡ replicate (length l) 0 → length l ≡ n → l' ≡ replicate n 0

@@ -5,17 +5,12 @@ use mathlib.Core.Path.{◌≡◌, refl, sym, ◌∙◌, ap}
 use mathlib.Core.Bool.{Bool, true, false}
 use mathlib.Core.List.{List, [], ◌∷◌, ◌++◌, append_assoc, append-nil}
 use lib.ListN.{length, get_or, drop, length-drop, drop_of_length-le}
-use lib.Seq.{slice, slice_empty, length-slice}
+use lib.Seq.{slice, length-slice}
 use lib.Dec.{leb}
 use borrow.Author.Tests.{lt-ltb, le-ltb, leb-true, leb-false}
-use Rattle.text.specs.Bytes.{bytes, continues_name}
-use Rattle.text.specs.Strings.{same_name}
+use Rattle.text.specs.Bytes.{continues_name}
 use Rattle.text.specs.Parts.{drop_one, slice_back, slice_snoc, drop_behind}
-use Rattle.syntax.specs.Tree.{undefined, error, boolean}
-use Rattle.syntax.specs.Token as T
 use Rattle.syntax.specs.Token.{next, bad, front_of, name_front, word_in, reserved, tokens_from}
-use Rattle.syntax.specs.declared.Binary.TheVariants.{Is, Isnt}
-use Rattle.syntax.specs.declared.Symbol.TheVariants.{Parent, Other}
 use Rattle.tokens.specs.Inner.Meaning.{tokens_at, placed, Run, AtByte}
 
 -- ---- runs of a class
@@ -32,9 +27,6 @@ module _ (class : ℕ → Bool) (s : List ℕ) where
   pub run_end : (at i : ℕ) → length s ≤ i → slice at i s ++ front_of class (drop i s) ≡ slice at i s
   unfolding front_of
   run_end at i h = rw (drop_of_length-le s h) (append-nil (slice at i s))
-
-  pub run_start : (at : ℕ) → front_of class (drop at s) ≡ slice at at s ++ front_of class (drop at s)
-  run_start at = rw (slice_empty at s) refl
 
 -- ---- the tokens behind one that ends at q
 
@@ -73,50 +65,3 @@ module _ (s : List ℕ) (p q : ℕ) (k : Run continues_name s p q) where
   pub name_token : p < q → q - p ≤ 64 → placed s p (name_front (drop p s)) ≡ next p (word_in reserved (slice p q s)) (tokens_at s q)
   unfolding name_front
   name_token h l = rw (k.run, length-slice p q s k.high, le-ltb 64 (q - p) l, behind s p q (q - p) h k.high (omega arith)) refl
-
--- ---- reserved words, in the order of their table
-
-module _ (w : List ℕ) where
-  pub word_true : same_name (bytes "true") w ≡ true → word_in reserved w ≡ T.constant (boolean true)
-  unfolding word_in reserved
-  word_true h = rw (h) refl
-
-  module _ (h1 : same_name (bytes "true") w ≡ false) where
-    pub word_false : same_name (bytes "false") w ≡ true → word_in reserved w ≡ T.constant (boolean false)
-    unfolding word_in reserved
-    word_false h = rw (h1, h) refl
-
-    module _ (h2 : same_name (bytes "false") w ≡ false) where
-      pub word_undefined : same_name (bytes "undefined") w ≡ true → word_in reserved w ≡ T.constant undefined
-      unfolding word_in reserved
-      word_undefined h = rw (h1, h2, h) refl
-
-      module _ (h3 : same_name (bytes "undefined") w ≡ false) where
-        pub word_error : same_name (bytes "error") w ≡ true → word_in reserved w ≡ T.constant error
-        unfolding word_in reserved
-        word_error h = rw (h1, h2, h3, h) refl
-
-        module _ (h4 : same_name (bytes "error") w ≡ false) where
-          pub word_is : same_name (bytes "is") w ≡ true → word_in reserved w ≡ T.operator Is
-          unfolding word_in reserved
-          word_is h = rw (h1, h2, h3, h4, h) refl
-
-          module _ (h5 : same_name (bytes "is") w ≡ false) where
-            pub word_isnt : same_name (bytes "isnt") w ≡ true → word_in reserved w ≡ T.operator Isnt
-            unfolding word_in reserved
-            word_isnt h = rw (h1, h2, h3, h4, h5, h) refl
-
-            module _ (h6 : same_name (bytes "isnt") w ≡ false) where
-              pub word_parent : same_name (bytes "parent") w ≡ true → word_in reserved w ≡ T.symbol Parent
-              unfolding word_in reserved
-              word_parent h = rw (h1, h2, h3, h4, h5, h6, h) refl
-
-              module _ (h7 : same_name (bytes "parent") w ≡ false) where
-                pub word_other : same_name (bytes "other") w ≡ true → word_in reserved w ≡ T.symbol Other
-                unfolding word_in reserved
-                word_other h = rw (h1, h2, h3, h4, h5, h6, h7, h) refl
-
-                module _ (h8 : same_name (bytes "other") w ≡ false) where
-                  pub word_name : word_in reserved w ≡ T.word w
-                  unfolding word_in reserved
-                  word_name = rw (h1, h2, h3, h4, h5, h6, h7, h8) refl

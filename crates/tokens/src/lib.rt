@@ -1,11 +1,13 @@
 // What a token is; names and reserved words as tokens.
 #![tactic(auto)]
 
-ghost use Rattle.std.specs.Prelude.{◌≡◌, false, ◌≤◌, ◌<◌, length, drop};
+ghost use Rattle.std.specs.Prelude.{◌≡◌, ◌≤◌, ◌<◌, length, drop};
+ghost use Rattle.syntax.specs.Refusals.{refusal};
 ghost use Rattle.syntax.specs.Token.{name_front};
-ghost use Rattle.tokens.specs.Inner.Meaning.{Run, AtByte, class_of, WordMeans, Placed};
+ghost use Rattle.tokens.specs.Inner.Meaning.{Run, AtByte, class_of, place_of, WordMeans, Placed};
+ghost use Rattle.tokens.specs.declared.Class.TheVariants.{NameBytes};
 
-use syntax::{Binary, Symbol};
+use syntax::{Binary, Reason, Refusal, Symbol};
 
 // A literal that has no bytes of its own.
 #[derive(Clone, Copy)]
@@ -18,89 +20,127 @@ pub enum Constant {
     Real(u64, u64),
 }
 
-// A token: each but the end carries the place of its first byte, and then the place behind it.
+// The place of a token's first byte, and the place behind it.
+#[derive(Clone, Copy, PartialEq, Eq)]
+pub struct Span {
+    pub start: usize,
+    pub end: usize,
+}
+
 #[derive(Clone, Copy)]
 pub enum Token {
     // The text's length.
     End(usize),
-    // The number of its refusal, and its place.
-    Bad(u8, usize),
-    Word(usize, usize),
-    Constant(Constant, usize, usize),
+    Word(Span),
+    Constant(Constant, Span),
     // How many bytes it has after escapes comes first.
-    String(usize, usize, usize),
-    Operator(Binary, usize, usize),
-    Symbol(Symbol, usize, usize),
+    String(usize, Span),
+    Operator(Binary, Span),
+    Symbol(Symbol, Span),
 }
 
-// Whether a byte is a digit, or one that a Name goes on with.
-fn in_class(b: u8, digits: bool) -> bool
-    ensures { result ≡ class_of digits b }
-{
-    if digits {
-        text::is_digit(b)
-    } else {
-        text::continues_name(b)
+impl Token {
+    // The place of its first byte; the text's length for the end.
+    pub fn place(self) -> usize
+        ensures { result ≡ place_of self }
+    {
+        match self {
+            Token::End(place) => place,
+            Token::Word(at)
+            | Token::Constant(_, at)
+            | Token::String(_, at)
+            | Token::Operator(_, at)
+            | Token::Symbol(_, at) => at.start,
+        }
+    }
+
+    // The refusal where it does not fit the grammar.
+    pub fn misfit(self) -> Refusal
+        ensures { result ≡ refusal 4 (place_of self) }
+    {
+        Refusal {
+            reason: Reason::Misfit,
+            place: self.place(),
+        }
+    }
+}
+
+// Which bytes a run is of: digits, or those that a Name goes on with.
+#[derive(Clone, Copy, PartialEq, Eq)]
+pub enum Class {
+    Digits,
+    NameBytes,
+}
+
+impl Class {
+    fn has(self, b: u8) -> bool
+        ensures { result ≡ class_of self b }
+    {
+        match self {
+            Class::Digits => text::is_digit(b),
+            Class::NameBytes => text::continues_name(b),
+        }
     }
 }
 
 // Where the bytes of a class from `at` on end.
-pub fn run(text: &[u8], at: usize, digits: bool) -> usize
+pub fn run(text: &[u8], at: usize, class: Class) -> usize
     requires { at ≤ length text.now }
-    ensures { Run (class_of digits) text.now at result }
+    ensures { Run (class_of class) text.now at result }
 {
-    let mut i = at;
-    while i < text.len() {
-        if in_class(text[i], digits) {
-            i += 1;
-        } else {
+    for i in at..text.len() {
+        if !class.has(text[i]) {
             return i;
         }
     }
-    i
+    text.len()
 }
 
-// The word from `p` up to `q`: reserved, or a Name.
-fn word(text: &[u8], p: usize, q: usize) -> Token
-    requires { (p < q) × (q ≤ length text.now) }
-    ensures { WordMeans text.now p q result }
+// The word at a place: reserved, or a Name.
+#[tactic(auto, unfolding(syntax::specs::Token::word_in, syntax::specs::Token::reserved, text::specs::Bytes::bytes), using(text::specs::Parts::part_slice))]
+fn word(text: &[u8], at: Span) -> Token
+    requires { (at.start < at.end) × (at.end ≤ length text.now) }
+    ensures { WordMeans text.now at result }
 {
-    let w = &text[p..q];
+    let w = &text[at.start..at.end];
     if text::same_name(b"true", w) {
-        return Token::Constant(Constant::Boolean(true), p, q);
+        return Token::Constant(Constant::Boolean(true), at);
     }
     if text::same_name(b"false", w) {
-        return Token::Constant(Constant::Boolean(false), p, q);
+        return Token::Constant(Constant::Boolean(false), at);
     }
     if text::same_name(b"undefined", w) {
-        return Token::Constant(Constant::Undefined, p, q);
+        return Token::Constant(Constant::Undefined, at);
     }
     if text::same_name(b"error", w) {
-        return Token::Constant(Constant::Error, p, q);
+        return Token::Constant(Constant::Error, at);
     }
     if text::same_name(b"is", w) {
-        return Token::Operator(Binary::Is, p, q);
+        return Token::Operator(Binary::Is, at);
     }
     if text::same_name(b"isnt", w) {
-        return Token::Operator(Binary::Isnt, p, q);
+        return Token::Operator(Binary::Isnt, at);
     }
     if text::same_name(b"parent", w) {
-        return Token::Symbol(Symbol::Parent, p, q);
+        return Token::Symbol(Symbol::Parent, at);
     }
     if text::same_name(b"other", w) {
-        return Token::Symbol(Symbol::Other, p, q);
+        return Token::Symbol(Symbol::Other, at);
     }
-    Token::Word(p, q)
+    Token::Word(at)
 }
 
-// A reserved word or a Name whose first byte is at `p`.
-pub fn name(text: &[u8], p: usize) -> Token
-    requires { AtByte (class_of false) text.now p }
-    ensures { Placed text.now p (name_front (drop p text.now)) result }
+// A reserved word or a Name whose first byte is at `start`.
+pub fn name(text: &[u8], start: usize) -> Result<Token, Refusal>
+    requires { AtByte (class_of NameBytes) text.now start }
+    ensures { Placed text.now start (name_front (drop start text.now)) result }
 {
-    let q = run(text, p, false);
-    if syntax::NAME_BYTES < q - p {
-        return Token::Bad(7, p);
+    let end = run(text, start, Class::NameBytes);
+    if syntax::NAME_BYTES < end - start {
+        return Err(Refusal {
+            reason: Reason::TokenTooLong,
+            place: start,
+        });
     }
-    word(text, p, q)
+    Ok(word(text, Span { start, end }))
 }

@@ -1,108 +1,40 @@
-use native.Mathlib.Omega.{arith}
-use mathlib.Core.Path.{◌≡◌, sym, ◌∙◌}
-use lib.ListN.{length}
-use Rattle.leaves.specs.Inner.Marks.{mark, memory}
-use Rattle.leaves.proofs.Laws.{fewer_left}
+use Rattle.std.proofs.Common.{arith, sym, ◌∙◌}
+use Rattle.std.proofs.lemmas.Result.{err_from_is_err_and}
+use Rattle.leaves.specs.Inner.Marks.{mark_at, memory}
+use Rattle.leaves.proofs.Laws.{fewer_left, copied}
 use Rattle.syntax.specs.Token.{symbol}
 use Rattle.syntax.specs.declared.Symbol.TheVariants.{Assign}
 use Rattle.definition_reader.proofs.Laws.{definition_twice, definition_many, definition_assign, definition_refused, definition_done}
 use Rattle.definition_reader.proofs.read_definition.Goals as goal
 
-pub returns-then-defined : goal.returns-then-defined
-returns-then-defined c = record {
-  within = tt;
-  exact = definition_twice c.args.text.now c.args.p c.args.q c.args.d (mark c.args.n c.args.k)
-      (memory c.args.words.now c.args.bytes.now) c.requires.1.1.few c.requires.1.1.words
-      (omega (arith, c.requires.1.1.short, c.requires.1.1.place, c.requires.1.1.bytes)) (omega (arith, c.requires.0))
-      (memory c.args.words.now c.args.bytes.now)
-      (sym c.if-defined.true ∙ c.defined.ensures);
-}
+pub returns-then-defined-clause-exact : goal.returns-then-defined-clause-exact
+returns-then-defined-clause-exact c =
+    definition_twice c.args.text.now c.args.name.start c.args.name.end c.args.d (mark_at c.args.from) (memory c.args.words.now c.args.bytes.now) c.requires.1.1.few c.requires.1.1.words (omega (arith, c.requires.1.1.short, c.requires.1.1.place, c.requires.1.1.bytes)) (omega (arith, c.requires.0)) (memory c.args.words.now c.args.bytes.now) (sym c.if-defined.true ∙ c.defined.ensures)
 
-pub returns-then-d-ge-DEFINITIONS : goal.returns-then-d-ge-DEFINITIONS
-returns-then-d-ge-DEFINITIONS c = record {
-  within = tt;
-  exact = definition_many c.args.text.now c.args.p c.args.q c.args.d (mark c.args.n c.args.k)
-      (memory c.args.words.now c.args.bytes.now) c.requires.1.1.few c.requires.1.1.words
-      (omega (arith, c.requires.1.1.short, c.requires.1.1.place, c.requires.1.1.bytes)) (omega (arith, c.requires.0))
-      (sym c.if-defined.false ∙ c.defined.ensures)
-      (memory c.args.words.now c.args.bytes.now) c.if-d-ge-DEFINITIONS.true;
-}
+pub returns-then-d-ge-DEFINITIONS-clause-exact : goal.returns-then-d-ge-DEFINITIONS-clause-exact
+returns-then-d-ge-DEFINITIONS-clause-exact c =
+    definition_many c.args.text.now c.args.name.start c.args.name.end c.args.d (mark_at c.args.from) (memory c.args.words.now c.args.bytes.now) c.requires.1.1.few c.requires.1.1.words (omega (arith, c.requires.1.1.short, c.requires.1.1.place, c.requires.1.1.bytes)) (omega (arith, c.requires.0)) (sym c.if-defined.false ∙ c.defined.ensures) (memory c.args.words.now c.args.bytes.now) c.if-d-ge-DEFINITIONS.true
 
-pub symbol_at-requires : goal.symbol_at-requires
-symbol_at-requires c = c.requires.1.1.place
+pub returns-in_err-assign-clause-exact : goal.returns-in_err-assign-clause-exact
+returns-in_err-assign-clause-exact c =
+    let r = err_from_is_err_and c.from_residual.result c.from_residual.ensures.1 in
+    rw (r.1, r.2) (definition_assign c.args.text.now c.args.name.start c.args.name.end c.args.d (mark_at c.args.from) (memory c.args.words.now c.args.bytes.now) c.requires.1.1.few c.requires.1.1.words (omega (arith, c.requires.1.1.short, c.requires.1.1.place, c.requires.1.1.bytes)) (omega (arith, c.requires.0)) (sym c.if-defined.false ∙ c.defined.ensures) c.if-d-ge-DEFINITIONS.false (memory c.args.words.now c.args.bytes.now) _ c.in_err-assign.ensures)
 
-pub copy-requires : goal.copy-requires
-copy-requires c = omega (arith, c.requires.0, c.requires.1.0)
+pub returns-in_err-done-clause-exact : goal.returns-in_err-done-clause-exact
+returns-in_err-done-clause-exact c =
+    let b = copied c.args.bytes.now c.args.text.now c.copy_from_slice.new.self c.args.from.bytes c.args.name.start c.args.name.end (omega arith) c.requires.1.1.place (omega arith) c.copy_from_slice.ensures.after in
+    let r = err_from_is_err_and c.from_residual-in_err-done.result c.from_residual-in_err-done.ensures.1 in
+    rw (r.1, r.2) (definition_refused c.args.text.now c.args.name.start c.args.name.end c.args.d (mark_at c.args.from) (memory c.args.words.now c.args.bytes.now) c.requires.1.1.few c.requires.1.1.words (omega (arith, c.requires.1.1.short, c.requires.1.1.place, c.requires.1.1.bytes)) (omega (arith, c.requires.0)) (sym c.if-defined.false ∙ c.defined.ensures) c.if-d-ge-DEFINITIONS.false _ _ c.in_ok-assign.ensures c.requires.1.1.place _ b (memory c.args.words.now c.args.bytes.now) (memory c.args.words.now c.args.bytes.now) _ c.in_err-done.ensures.exact)
 
-pub overflow_sub-q : goal.overflow_sub-q
-overflow_sub-q c = omega (
-  arith,
-  c.requires.0,
-)
-
-pub overflow_add-k : goal.overflow_add-k
-overflow_add-k c = omega (arith, c.requires.0, c.requires.1.0)
-
-pub read_conditional-requires : goal.read_conditional-requires
-read_conditional-requires c = let g = (rw c.in-Here.is at c.symbol_at.ensures) in
-    let lc : length c.copy.new.bytes ≡ length c.args.bytes.now =
-    c.copy.auto.bytes in
-    omega (arith, c.requires.0, c.requires.1.0)
-
-pub overflow_sub-q-in-Done : goal.overflow_sub-q-in-Done
-overflow_sub-q-in-Done c = omega (
-  arith,
-  c.requires.0,
-)
-
-pub overflow_sub-m : goal.overflow_sub-m
-overflow_sub-m c = (rw c.in-Done.is at
-    c.read_conditional.ensures.within).some
-
-pub store_definition-requires : goal.store_definition-requires
-store_definition-requires c = let l1 : length c.read_conditional.new.words ≡ length
-    c.args.words.now = c.read_conditional.auto.words in
-    omega (arith, c.if-d-ge-DEFINITIONS.false)
-
-pub returns-in-Absent : goal.returns-in-Absent
-returns-in-Absent c = record {
-  within = tt;
-  exact = definition_assign c.args.text.now c.args.p c.args.q c.args.d (mark c.args.n c.args.k)
-      (memory c.args.words.now c.args.bytes.now) c.requires.1.1.few c.requires.1.1.words
-      (omega (arith, c.requires.1.1.short, c.requires.1.1.place, c.requires.1.1.bytes)) (omega (arith, c.requires.0))
-      (sym c.if-defined.false ∙ c.defined.ensures) c.if-d-ge-DEFINITIONS.false
-      (memory c.args.words.now c.args.bytes.now) _ _
-      (rw c.in-Absent.is at c.symbol_at.ensures);
-}
-
-pub returns-in-Refused : goal.returns-in-Refused
-returns-in-Refused c = record {
-  within = tt;
-  exact = definition_refused c.args.text.now c.args.p c.args.q c.args.d (mark c.args.n c.args.k)
-      (memory c.args.words.now c.args.bytes.now) c.requires.1.1.few c.requires.1.1.words
-      (omega (arith, c.requires.1.1.short, c.requires.1.1.place, c.requires.1.1.bytes)) (omega (arith, c.requires.0))
-      (sym c.if-defined.false ∙ c.defined.ensures) c.if-d-ge-DEFINITIONS.false _ _
-      (rw c.in-Here.is at c.symbol_at.ensures) c.requires.1.1.place
-      c.copy.new.bytes c.copy.ensures
-      (memory c.args.words.now c.args.bytes.now)
-      (memory c.args.words.now c.args.bytes.now) _ _
-      (rw c.in-Refused.is at c.read_conditional.ensures.exact);
-}
-
-pub returns-in-Done : goal.returns-in-Done
-returns-in-Done c = let g = (rw c.in-Here.is at c.symbol_at.ensures) in
-    let i = (rw c.in-Done.is at c.read_conditional.ensures.within) in
+pub returns-clause-within : goal.returns-clause-within
+returns-clause-within c =
+    let i = c.in_ok-done.ensures.within in
+    let g = c.in_ok-assign.ensures in
     let f = fewer_left c.args.text.now _ _ _ (symbol Assign) g in
-    record {
-      within = (omega arith, i.high, omega arith, c.if-d-ge-DEFINITIONS.false, i.short, omega arith);
-      exact = definition_done c.args.text.now c.args.p c.args.q c.args.d (mark c.args.n c.args.k)
-          (memory c.args.words.now c.args.bytes.now) c.requires.1.1.few c.requires.1.1.words
-          (omega (arith, c.requires.1.1.short, c.requires.1.1.place, c.requires.1.1.bytes)) (omega (arith, c.requires.0))
-          (sym c.if-defined.false ∙ c.defined.ensures) c.if-d-ge-DEFINITIONS.false _
-          _ (rw c.in-Here.is at c.symbol_at.ensures) c.requires.1.1.place
-          c.copy.new.bytes c.copy.ensures (memory
-          c.read_conditional.new.words
-          c.read_conditional.new.bytes) _ _ _ _
-          (rw c.in-Done.is at c.read_conditional.ensures.exact) (omega arith) (omega arith)
-          c.store_definition.ensures;
-    }
+    (omega arith, i.high, omega arith, c.if-d-ge-DEFINITIONS.false, i.short, omega arith)
+
+pub returns-clause-exact : goal.returns-clause-exact
+returns-clause-exact c =
+    let b = copied c.args.bytes.now c.args.text.now c.copy_from_slice.new.self c.args.from.bytes c.args.name.start c.args.name.end (omega arith) c.requires.1.1.place (omega arith) c.copy_from_slice.ensures.after in
+    let i = c.in_ok-done.ensures.within in
+    definition_done c.args.text.now c.args.name.start c.args.name.end c.args.d (mark_at c.args.from) (memory c.args.words.now c.args.bytes.now) c.requires.1.1.few c.requires.1.1.words (omega (arith, c.requires.1.1.short, c.requires.1.1.place, c.requires.1.1.bytes)) (omega (arith, c.requires.0)) (sym c.if-defined.false ∙ c.defined.ensures) c.if-d-ge-DEFINITIONS.false _ _ c.in_ok-assign.ensures c.requires.1.1.place _ b (memory c.read_conditional.new.words c.read_conditional.new.bytes) _ c.in_ok-done.done c.in_ok-done.ensures.exact (omega arith) (omega arith) c.store_definition.ensures

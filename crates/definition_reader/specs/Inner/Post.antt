@@ -1,5 +1,5 @@
 -- What the reader of a definition is given and ensures. s is the text. Assumes nothing.
-use Rattle.std.specs.Prelude.{ℕ, ◌+◌, ◌≤◌, ◌<◌, ◌≡◌, List, [], ◌∷◌, ◌++◌, length}
+use Rattle.std.specs.Prelude.{ℕ, ◌+◌, ◌≤◌, ◌<◌, ◌≡◌, Result, Ok, Err, List, [], ◌∷◌, ◌++◌, length}
 use Rattle.std.proofs.lemmas.List.Edits.{sets}
 use Rattle.std.proofs.Math.Seq.{slice}
 use Rattle.syntax.specs.Tree.{Expr, Ad, size, nodes}
@@ -7,11 +7,12 @@ use Rattle.syntax.specs.Token.{Tokens, symbol}
 use Rattle.syntax.specs.Reader as R
 use Rattle.syntax.specs.Reader.{limits, conditional_at, after_a, want_a, admit, enough}
 use Rattle.syntax.specs.declared.Symbol.TheVariants.{Assign}
+use Rattle.syntax.specs.Refusals.{number_of}
+use Rattle.syntax.specs.declared.Refusal.{Refusal}
 use Rattle.tokens.specs.Inner.Meaning.{tokens_at}
 use Rattle.ad.specs.Layout.{ad_nodes, ad_definitions, ad_bytes}
-use Rattle.leaves.specs.Inner.Marks.{Mark, mark, Memory, memory, left}
-use Rattle.expressions.specs.declared.Read.{Read}
-use Rattle.expressions.specs.declared.Read.TheVariants as E
+use Rattle.leaves.specs.Inner.Marks.{Mark, mark, mark_at, Memory, memory, left}
+use Rattle.leaves.specs.declared.Progress.{Progress}
 
 -- behind the ad a: its nodes and bytes are stored
 abbrev pub ends : Ad → Mark
@@ -46,13 +47,13 @@ abbrev pub one : List ℕ → Expr → Ad
 one w e = record { name = w; expression = e } ∷ []
 
 -- a definition whose Name stands from p up to q: 'definitions `name = expression`'; 'expression starts at level 0'
-abbrev pub DefinitionOk : List ℕ → ℕ → ℕ → ℕ → Mark → Memory → Memory → Read → Type 0
-DefinitionOk s p q d m w w' (E.Done r n k) =
+abbrev pub DefinitionOk : List ℕ → ℕ → ℕ → ℕ → Mark → Memory → Memory → Result Progress Refusal → Type 0
+DefinitionOk s p q d m w w' (Ok r) =
     (a : Ad) (v : Memory) → Holds d m w v a →
-    (e : Expr) × ((go : Expr → Tokens → R.Answer) → definition_at (tokens_at s q) (slice p q s) p a m.nodes go ≡ go e (tokens_at s r)) × (n ≡ m.nodes + size e) × Holds (d + 1) (mark n k) w' v (a ++ one (slice p q s) e)
-DefinitionOk s p q d m w w' (E.Refused x y) = (a : Ad) (v : Memory) → Holds d m w v a → (go : Expr → Tokens → R.Answer) → definition_at (tokens_at s q) (slice p q s) p a m.nodes go ≡ R.denied x y
+    (e : Expr) × ((go : Expr → Tokens → R.Answer) → definition_at (tokens_at s q) (slice p q s) p a m.nodes go ≡ go e (tokens_at s r.place)) × (r.nodes ≡ m.nodes + size e) × Holds (d + 1) (mark_at r) w' v (a ++ one (slice p q s) e)
+DefinitionOk s p q d m w w' (Err r) = (a : Ad) (v : Memory) → Holds d m w v a → (go : Expr → Tokens → R.Answer) → definition_at (tokens_at s q) (slice p q s) p a m.nodes go ≡ R.denied (number_of r.reason) r.place
 
 -- where the reader is behind a definition
-abbrev pub DefinitionWithin : List ℕ → ℕ → ℕ → Read → Type 0
-DefinitionWithin s q d (E.Done r n k) = (q ≤ r) × (r ≤ length s) × (n ≤ 1024) × (d < 256) × (k ≤ r) × (left s r + 1 ≤ left s q)
-DefinitionWithin s q d (E.Refused x y) = Unit {0}
+abbrev pub DefinitionWithin : List ℕ → ℕ → ℕ → Result Progress Refusal → Type 0
+DefinitionWithin s q d (Ok r) = (q ≤ r.place) × (r.place ≤ length s) × (r.nodes ≤ 1024) × (d < 256) × (r.bytes ≤ r.place) × (left s r.place + 1 ≤ left s q)
+DefinitionWithin s q d (Err r) = Unit {0}

@@ -7,7 +7,7 @@ pub returns-then-text-p : goal.returns-then-text-p
 returns-then-text-p c = record {
   means_it = scan_end c.args.text.now c.args.p
       c.if-text-p.true;
-  span = tt;
+  lies = tt;
 }
 
 pub name-requires : goal.name-requires
@@ -22,7 +22,7 @@ returns-then-starts_name c = record {
       c.if-text-p.false (c.requires.stop c.if-text-p.false)
       (sym c.starts_name.ensures ∙ c.if-starts_name.true)
       ∙ c.name.ensures.means_it;
-  span = c.name.ensures.span;
+  lies = c.name.ensures.lies;
 }
 
 pub number-requires : goal.number-requires
@@ -38,7 +38,7 @@ returns-then-is_digit c = record {
       (sym c.starts_name.ensures ∙ c.if-starts_name.false)
       (sym c.is_digit.ensures ∙ c.if-is_digit.true)
       ∙ c.number.ensures.means_it;
-  span = c.number.ensures.span;
+  lies = c.number.ensures.lies;
 }
 
 pub returns-then-b-eq34 : goal.returns-then-b-eq34
@@ -48,7 +48,7 @@ returns-then-b-eq34 c = record {
       (sym c.starts_name.ensures ∙ c.if-starts_name.false)
       (sym c.is_digit.ensures ∙ c.if-is_digit.false) c.if-b-eq34.true
       ∙ c.string.ensures.means_it;
-  span = c.string.ensures.span;
+  lies = c.string.ensures.lies;
 }
 
 pub returns : goal.returns
@@ -58,5 +58,5 @@ returns c = record {
       (sym c.starts_name.ensures ∙ c.if-starts_name.false)
       (sym c.is_digit.ensures ∙ c.if-is_digit.false) c.if-b-eq34.false
       ∙ c.symbol_token.ensures.means_it;
-  span = c.symbol_token.ensures.span;
+  lies = c.symbol_token.ensures.lies;
 }

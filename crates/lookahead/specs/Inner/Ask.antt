@@ -1,20 +1,16 @@
 -- What the answers on the token at a place stand for. s is the text. Assumes nothing.
-use Rattle.std.specs.Prelude.{ℕ, ◌≤◌, ◌<◌, ◌≡◌, false, List, length}
+use Rattle.std.specs.Prelude.{ℕ, ◌≤◌, ◌<◌, ◌≡◌, false, Option, Some, None, Result, Ok, Err, List, length}
 use Rattle.std.proofs.Math.Seq.{slice}
 use Rattle.syntax.specs.Token.{Token, word, constant, operator, symbol, Tokens, next, end, bad}
 use Rattle.syntax.specs.Grammar.{binds_of, unary_token}
 use Rattle.syntax.specs.Reader.{is_token}
+use Rattle.syntax.specs.declared.Binary.{Binary}
 use Rattle.syntax.specs.declared.Unary.{Unary}
 use Rattle.syntax.specs.declared.Symbol.{Symbol}
+use Rattle.syntax.specs.Refusals.{number_of}
+use Rattle.syntax.specs.declared.Refusal.{Refusal}
 use Rattle.tokens.specs.Inner.Meaning.{tokens_at}
-use Rattle.lookahead.specs.declared.SymbolAt.{SymbolAt}
-use Rattle.lookahead.specs.declared.SymbolAt.TheVariants as S
-use Rattle.lookahead.specs.declared.WordAt.{WordAt}
-use Rattle.lookahead.specs.declared.WordAt.TheVariants as W
-use Rattle.lookahead.specs.declared.BinaryAt.{BinaryAt}
-use Rattle.lookahead.specs.declared.BinaryAt.TheVariants as B
-use Rattle.lookahead.specs.declared.UnaryAt.{UnaryAt}
-use Rattle.lookahead.specs.declared.UnaryAt.TheVariants as U
+use Rattle.tokens.specs.declared.Span.{Span}
 
 -- the token in front is not the symbol or operator x
 abbrev pub NotToken : Token → Tokens → Type 0
@@ -55,21 +51,21 @@ pub record Stands (s : List ℕ) (at p : ℕ) (t : Token) (q : ℕ) : Type 0 whe
   pub stands : tokens_at s at ≡ next p t (tokens_at s q)
 
 -- the symbol x, or the refusal of what is there: 'token does not fit the grammar, or text ends early'
-abbrev pub SymbolIs : List ℕ → ℕ → Symbol → SymbolAt → Type 0
-SymbolIs s at x (S.Here p q) = Stands s at p (symbol x) q
-SymbolIs s at x (S.Absent k p) = NotToken (symbol x) (tokens_at s at) × Misfit k p (tokens_at s at)
+abbrev pub SymbolIs : List ℕ → ℕ → Symbol → Result Span Refusal → Type 0
+SymbolIs s at x (Ok w) = Stands s at w.start (symbol x) w.end
+SymbolIs s at x (Err r) = NotToken (symbol x) (tokens_at s at) × Misfit (number_of r.reason) r.place (tokens_at s at)
 
 -- a Name, or the refusal of what is there: 'token does not fit the grammar, or text ends early'
-abbrev pub WordIs : List ℕ → ℕ → WordAt → Type 0
-WordIs s at (W.Here p q) = Stands s at p (word (slice p q s)) q
-WordIs s at (W.Absent k p) = NotWord (tokens_at s at) × Misfit k p (tokens_at s at)
+abbrev pub WordIs : List ℕ → ℕ → Result Span Refusal → Type 0
+WordIs s at (Ok w) = Stands s at w.start (word (slice w.start w.end s)) w.end
+WordIs s at (Err r) = NotWord (tokens_at s at) × Misfit (number_of r.reason) r.place (tokens_at s at)
 
 -- an operator of two operands that binds at b
-abbrev pub BinaryIs : List ℕ → ℕ → ℕ → BinaryAt → Type 0
-BinaryIs s at b (B.Here j p q) = (binds_of j ≡ b) × Stands s at p (operator j) q
-BinaryIs s at b B.Absent = NotBinary b (tokens_at s at)
+abbrev pub BinaryIs : List ℕ → ℕ → ℕ → Option (Binary × Span) → Type 0
+BinaryIs s at b (Some x) = (binds_of x.0 ≡ b) × Stands s at x.1.start (operator x.0) x.1.end
+BinaryIs s at b None = NotBinary b (tokens_at s at)
 
 -- an operator of one operand: 'unary `! + -`'
-abbrev pub UnaryIs : List ℕ → ℕ → UnaryAt → Type 0
-UnaryIs s at (U.Here o p q) = Stands s at p (unary_token o) q
-UnaryIs s at U.Absent = (o : Unary) → NotToken (unary_token o) (tokens_at s at)
+abbrev pub UnaryIs : List ℕ → ℕ → Option (Unary × Span) → Type 0
+UnaryIs s at (Some x) = Stands s at x.1.start (unary_token x.0) x.1.end
+UnaryIs s at None = (o : Unary) → NotToken (unary_token o) (tokens_at s at)

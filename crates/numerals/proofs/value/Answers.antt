@@ -1,23 +1,12 @@
-use native.Mathlib.Omega.{arith}
-use mathlib.Core.Path.{refl, ◌∙◌}
+use Rattle.std.proofs.Common.{arith, ◌∙◌}
 use Rattle.numerals.proofs.Laws.{value_step, value_end}
 use Rattle.numerals.proofs.value.Goals as goal
 
-pub loop-i-init : goal.loop-i-init
-loop-i-init c = (omega arith, omega arith, omega arith, refl)
-
-pub loop-i-preserved : goal.loop-i-preserved
-loop-i-preserved c = (
-  omega arith,
-  omega arith,
+pub loop-b-preserved : goal.loop-b-preserved
+loop-b-preserved c = (
   omega (arith, c.push-w.ensures),
-  rw c.push-w.ensures (value_step c.args.text.now c.loop-i.i c.args.q
-      c.loop-i.w (omega arith) (omega arith)
-      ∙ c.loop-i.invariant.3),
+  rw c.push-w.ensures (value_step c.args.digits.now c.loop-b.b-index c.loop-b.w (omega arith) ∙ c.loop-b.invariant.1),
 )
 
 pub returns : goal.returns
-returns c = value_end c.args.text.now c.loop-i.i
-    c.args.q c.loop-i.w (omega arith) (omega arith)
-    (omega arith)
-    ∙ c.loop-i.invariant.3
+returns c = value_end c.args.digits.now c.loop-b.b-index c.loop-b.w (omega arith) (omega arith) ∙ c.loop-b.invariant.1

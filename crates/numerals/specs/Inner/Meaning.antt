@@ -14,6 +14,6 @@ pub record Fraction (s : List ℕ) (at r : ℕ) : Type 0 where
 abbrev pub largest_read : ℕ
 largest_read = 1000000000000000
 
--- the digits from p up to q read after v, but no more than the largest
+-- the digits ds read after v, but no more than the largest
 abbrev pub value_to : ℕ → List ℕ → ℕ
 value_to v ds = min (value_from v ds) largest_read

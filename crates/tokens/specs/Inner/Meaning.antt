@@ -1,10 +1,15 @@
 -- What a token stands for, and a run of bytes in it. s is the text; a place counts its bytes from 0. Assumes nothing.
-use Rattle.std.specs.Prelude.{ℕ, ◌+◌, ◌-◌, ◌≤◌, ◌<◌, ◌≡◌, Bool, true, false, List, [], length, get_or, drop}
+use Rattle.std.specs.Prelude.{ℕ, ◌+◌, ◌-◌, ◌≤◌, ◌<◌, ◌≡◌, Bool, true, Result, Ok, Err, List, [], length, get_or, drop}
 use Rattle.std.proofs.Math.Seq.{slice}
 use Rattle.text.specs.Bytes.{is_digit, continues_name}
 use Rattle.syntax.specs.Tree.{Literal, undefined, error, boolean, integer, real, string}
 use Rattle.syntax.specs.Token as T
 use Rattle.syntax.specs.Token.{Tokens, next, end, bad, Front, front_of, Body, closed, broken, body_of, on_front, tokens_from}
+use Rattle.syntax.specs.Refusals.{number_of}
+use Rattle.syntax.specs.declared.Refusal.{Refusal}
+use Rattle.tokens.specs.declared.Class.{Class}
+use Rattle.tokens.specs.declared.Class.TheVariants.{Digits, NameBytes}
+use Rattle.tokens.specs.declared.Span.{Span}
 use Rattle.tokens.specs.declared.Constant.{Constant}
 use Rattle.tokens.specs.declared.Constant.TheVariants as C
 use Rattle.tokens.specs.declared.Token.{Token}
@@ -31,44 +36,61 @@ bytes_of broken = []
 abbrev pub string_at : List ℕ → ℕ → List ℕ
 string_at s p = bytes_of (body_of (drop (p + 1) s))
 
--- the tokens of s from the token t on: p is the place of its first byte, q the place behind it
+-- the place of a token's first byte: 'its first byte is the place, for a 4 where text ends early the text's length'
+abbrev pub place_of : Token → ℕ
+place_of (K.End p) = p
+place_of (K.Word at) = at.start
+place_of (K.Constant c at) = at.start
+place_of (K.String n at) = at.start
+place_of (K.Operator j at) = at.start
+place_of (K.Symbol x at) = at.start
+
+-- the tokens of s from the token t on, which stands at its place in s
 abbrev pub means : List ℕ → Token → Tokens
 means s (K.End p) = end p
-means s (K.Bad k p) = bad k p
-means s (K.Word p q) = next p (T.word (slice p q s)) (tokens_at s q)
-means s (K.Constant c p q) = next p (T.constant (literal_of c)) (tokens_at s q)
-means s (K.String n p q) = next p (T.constant (string (string_at s p))) (tokens_at s q)
-means s (K.Operator j p q) = next p (T.operator j) (tokens_at s q)
-means s (K.Symbol x p q) = next p (T.symbol x) (tokens_at s q)
+means s (K.Word at) = next at.start (T.word (slice at.start at.end s)) (tokens_at s at.end)
+means s (K.Constant c at) = next at.start (T.constant (literal_of c)) (tokens_at s at.end)
+means s (K.String n at) = next at.start (T.constant (string (string_at s at.start))) (tokens_at s at.end)
+means s (K.Operator j at) = next at.start (T.operator j) (tokens_at s at.end)
+means s (K.Symbol x at) = next at.start (T.symbol x) (tokens_at s at.end)
+
+-- the same where the token may be refused: 'A refusal carries its number and a place'
+abbrev pub told : List ℕ → Result Token Refusal → Tokens
+told s (Ok t) = means s t
+told s (Err r) = bad (number_of r.reason) r.place
 
 -- the tokens of s from the place p on, where the front token is x
 abbrev pub placed : List ℕ → ℕ → Front → Tokens
 placed s p x = on_front x p (λ t n. next p t (tokens_from (n - 1) (p + 1) (drop (p + 1) s)))
 
--- a token from the place at on lies within the text, and a string has n bytes, fewer than its text
-abbrev pub Span : List ℕ → ℕ → Token → Type 0
-Span s at (K.End p) = Unit {0}
-Span s at (K.Bad k p) = Unit {0}
-Span s at (K.Word p q) = (at ≤ p) × (p < q) × (q ≤ length s)
-Span s at (K.Constant c p q) = (at ≤ p) × (p < q) × (q ≤ length s)
-Span s at (K.String n p q) = (at ≤ p) × (p + n < q) × (q ≤ length s) × (n ≡ length (string_at s p)) × (body_of (drop (p + 1) s) ≡ closed (string_at s p) (q - (p + 1)))
-Span s at (K.Operator j p q) = (at ≤ p) × (p < q) × (q ≤ length s)
-Span s at (K.Symbol x p q) = (at ≤ p) × (p < q) × (q ≤ length s)
+-- a token from the place p on lies within the text, and a string has n bytes, fewer than its text
+abbrev pub Lies : List ℕ → ℕ → Token → Type 0
+Lies s p (K.End q) = Unit {0}
+Lies s p (K.Word at) = (p ≤ at.start) × (at.start < at.end) × (at.end ≤ length s)
+Lies s p (K.Constant c at) = (p ≤ at.start) × (at.start < at.end) × (at.end ≤ length s)
+Lies s p (K.String n at) = (p ≤ at.start) × (at.start + n < at.end) × (at.end ≤ length s) × (n ≡ length (string_at s at.start)) × (body_of (drop (at.start + 1) s) ≡ closed (string_at s at.start) (at.end - (at.start + 1)))
+Lies s p (K.Operator j at) = (p ≤ at.start) × (at.start < at.end) × (at.end ≤ length s)
+Lies s p (K.Symbol x at) = (p ≤ at.start) × (at.start < at.end) × (at.end ≤ length s)
+
+-- the same of a token that may be refused
+abbrev pub LiesIfRead : List ℕ → ℕ → Result Token Refusal → Type 0
+LiesIfRead s p (Ok t) = Lies s p t
+LiesIfRead s p (Err r) = Unit {0}
 
 -- the token at the place p, whose front token is x
-pub record Placed (s : List ℕ) (p : ℕ) (x : Front) (t : Token) : Type 0 where
-  pub means_it : placed s p x ≡ means s t
-  pub span : Span s p t
+pub record Placed (s : List ℕ) (p : ℕ) (x : Front) (r : Result Token Refusal) : Type 0 where
+  pub means_it : placed s p x ≡ told s r
+  pub lies : LiesIfRead s p r
 
--- the word from p up to q: a Name, or 'Reserved, in any case: ..'
-pub record WordMeans (s : List ℕ) (p q : ℕ) (t : Token) : Type 0 where
-  pub means_it : next p (T.word_in T.reserved (slice p q s)) (tokens_at s q) ≡ means s t
-  pub span : Span s p t
+-- the word at a place: a Name, or 'Reserved, in any case: ..'
+pub record WordMeans (s : List ℕ) (at : Span) (t : Token) : Type 0 where
+  pub means_it : next at.start (T.word_in T.reserved (slice at.start at.end s)) (tokens_at s at.end) ≡ means s t
+  pub lies : Lies s at.start t
 
 -- which bytes a run is of: 'digits', or those of a Name, 'letters, digits, `_`'
-abbrev pub class_of : Bool → ℕ → Bool
-class_of true = is_digit
-class_of false = continues_name
+abbrev pub class_of : Class → ℕ → Bool
+class_of Digits = is_digit
+class_of NameBytes = continues_name
 
 -- the bytes of a class from at on end at r
 pub record Run (class : ℕ → Bool) (s : List ℕ) (at r : ℕ) : Type 0 where
