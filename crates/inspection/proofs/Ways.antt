@@ -12,27 +12,28 @@ use Rattle.well_formed.specs.WellFormed.{Answers}
 use Rattle.well_formed.specs.Laws.Bounds.{bounded}
 use Rattle.tree_check.specs.Laws.Runs.{Stands, stands_inside}
 use Rattle.tree_check.specs.Laws.Prints.{print_short}
-use Rattle.well_formed.specs.declared.Checked.TheVariants.{WellFormed}
+use Rattle.std.proofs.Common.{Some, Ok, Err}
+use Rattle.syntax.specs.declared.Reason.TheVariants.{PrintTooLong}
+use Rattle.well_formed.specs.declared.Checked.{Checked}
 use Rattle.tree_printer.specs.Inner.Post.{Fits, Written}
 use Rattle.printer.specs.Prints.{PrintsText}
-use Rattle.printer.specs.declared.Printed.TheVariants.{Text, Refused}
 use Rattle.printer.proofs.Ads.{table, print_put, print_long, print_longer}
 use Rattle.inspection.specs.Inspection.{node_text}
 use Rattle.inspection.proofs.Reached.{Reached, text_none, all_length, reach_ad}
 
-module _ (w b : List ℕ) (hw : length w ≡ 4864) (hb : length b ≡ 16384) (d n k node : ℕ) (h : Answers w b (WellFormed d n k)) where
+module _ (w b : List ℕ) (hw : length w ≡ 4864) (hb : length b ≡ 16384) (c : Checked) (node : ℕ) (h : Answers w b (Some c)) where
   -- the text that is to be written
   abbrev t : Ad → List ℕ
   t a = node_text a node
 
-  pub no_node : (o : List ℕ) → n ≤ node → PrintsText t w b o o (Text 0)
+  pub no_node : (o : List ℕ) → c.counts.nodes ≤ node → PrintsText t w b o o (Ok 0)
   no_node o g =
       let e : t h.0 ≡ [] = text_none _ node (omega (arith, all_length h.0, h.3)) in
-      print_put w b o hw hb t d n k 0 h (ap length (sym e)) o (omega arith) (omega arith) (ap (sets o 0) (sym e))
+      print_put w b o hw hb t 0 c h (ap length (sym e)) o (omega arith) (omega arith) (ap (sets o 0) (sym e))
 
-  module _ (lt : node < n) where
+  module _ (lt : node < c.counts.nodes) where
     at : Reached w b node (t h.0)
-    at = reach_ad h.0 w b 0 0 0 node node (table w b [] hw hb d n k h) (omega (arith, h.3)) (omega arith)
+    at = reach_ad h.0 w b 0 0 0 node node (table w b [] hw hb c h) (omega (arith, h.3)) (omega arith)
 
     inside : (l : List ℕ) (o : ℕ) → Stands b o l → length l ≤ 16384
     inside [] o s = omega arith
@@ -57,12 +58,12 @@ module _ (w b : List ℕ) (hw : length w ≡ 4864) (hb : length b ≡ 16384) (d 
       long : m ≡ length (t h.0)
       long = omega (arith, (put at.tree at.first at.byte at.stands).behind, ap length at.text)
 
-      pub too_long : (o : List ℕ) → length o < m → PrintsText t w b o o (Refused 11 0)
-      too_long o g = print_long w b o hw hb t d n k m h long g
+      pub too_long : (o : List ℕ) → length o < m → PrintsText t w b o o (Err (record { reason = PrintTooLong; place = 0 }))
+      too_long o g = print_long w b o hw hb t m c h long g
 
-      pub longer : (o : List ℕ) → 16384 < m → PrintsText t w b o o (Refused 11 0)
-      longer o g = print_longer w b o hw hb t d n k m h long g
+      pub longer : (o : List ℕ) → 16384 < m → PrintsText t w b o o (Err (record { reason = PrintTooLong; place = 0 }))
+      longer o g = print_longer w b o hw hb t m c h long g
 
-      pub put_node : (o o₁ : List ℕ) (r : ℕ) → m ≤ length o → m ≤ 16384 → Written printed w b node 0 o o₁ r → PrintsText t w b o o₁ (Text m)
+      pub put_node : (o o₁ : List ℕ) (r : ℕ) → m ≤ length o → m ≤ 16384 → Written printed w b node 0 o o₁ r → PrintsText t w b o o₁ (Ok m)
       put_node o o₁ r g f p =
-          print_put w b o hw hb t d n k m h long o₁ g f ((p at.tree at.first at.byte at.stands).written ∙ ap (sets o 0) (sym at.text))
+          print_put w b o hw hb t m c h long o₁ g f ((p at.tree at.first at.byte at.stands).written ∙ ap (sets o 0) (sym at.text))
