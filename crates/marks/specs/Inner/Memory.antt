@@ -1,5 +1,5 @@
 -- The traversal's memory: the place, the marks and the list as the rule's state. Assumes nothing.
-use Rattle.std.specs.Prelude.{◌≡◌, ◌⊎◌, Bool, cond, List, [], ◌∷◌, ℕ, suc, ◌+◌, ◌*◌, ◌≤◌, ◌<◌, length, get_or, set, take}
+use Rattle.std.specs.Prelude.{◌≡◌, ◌⊎◌, Bool, cond, Option, Some, None, List, [], ◌∷◌, ℕ, suc, ◌+◌, ◌*◌, ◌≤◌, ◌<◌, length, get_or, set, take}
 use Rattle.graph.specs.Members.{numbers, raised}
 use Rattle.graph.specs.Graph.{Graph}
 use Rattle.graph.specs.Transition.{State, searches, start, led, needed, marked}
@@ -43,6 +43,11 @@ view place len target marks flag list = record {
 unfoldable pub fill : List ℕ → ℕ → ℕ → List ℕ → List ℕ
 fill marks x j [] = marks
 fill marks x j (a ∷ vs) = fill (set marks (x * per_node + j) a) x (suc j) vs
+
+-- the nodes that a mark names, where it is read: none, or one
+abbrev pub nodes_of : Option ℕ → List ℕ
+nodes_of None = []
+nodes_of (Some y) = y ∷ []
 
 -- the flags, one set where b holds
 unfoldable pub flagged_at : List ℕ → ℕ → Bool → List ℕ
