@@ -45,14 +45,6 @@ unfolding flagged_at
 raised_flagged l x true h = raised_set l x h ∙ ap (put (raised l) x) (sym (or-true (raised l x)))
 raised_flagged l x false h = put_idle (raised l) x ∙ ap (put (raised l) x) (sym (or-false (raised l x)))
 
-pub flagged_yes : (l : List ℕ) (x : ℕ) {b : Bool} → b ≡ true → set l x 1 ≡ flagged_at l x b
-unfolding flagged_at
-flagged_yes l x e = rw e refl
-
-pub flagged_no : (l : List ℕ) (x : ℕ) {b : Bool} → b ≡ false → l ≡ flagged_at l x b
-unfolding flagged_at
-flagged_no l x e = rw e refl
-
 -- the flag that a link passed sets, or none
 pub flagged_by : (before : List ℕ) (x : ℕ) (b : Bool) {after : List ℕ} → after ≡ flagged_at before x b → Flagged x before after
 unfolding flagged_at
