@@ -5,7 +5,7 @@ ghost use Rattle.std.specs.Prelude.{◌≡◌, map, ◌++◌, ◌+◌, ◌≤◌
 ghost use Rattle.syntax.specs.Bounds.{max_definitions, max_nodes};
 ghost use Rattle.graph.specs.Transition.{marked};
 ghost use Rattle.ad.specs.Stored.{find, kind_at, node_count, is_reference};
-ghost use Rattle.links.specs.Pair.{numbered, linked, links_from};
+ghost use Rattle.links.specs.Pair.{numbered, linked, links_from, pair_slots};
 ghost use Rattle.links.specs.Graphs.{graph_of, RootsOf};
 ghost use Rattle.links.specs.Inner.Asked.{print_at, Printed, unmarked, mark_of, Stands, Fingerprints};
 ghost use Rattle.links.specs.Inner.Filling.{Filled};
@@ -36,7 +36,8 @@ fn fill(side: FormedAd<'_>, second: bool, prints: &mut [u32])
 // The number of a root of an ad, `second` or the first.
 fn numbered(second: bool, root: usize) -> usize
     requires { root < max_nodes }
-    ensures { result ≡ numbered second root }
+    ensures value { result ≡ numbered second root }
+    ensures small { result < pair_slots }
 {
     if second { syntax::NODES + root } else { root }
 }
@@ -44,7 +45,8 @@ fn numbered(second: bool, root: usize) -> usize
 // The root of the first definition of an ad, `second` or the first, that has this name.
 fn find_name(side: FormedAd<'_>, second: bool, prints: &[u32], name: &[u8]) -> Option<usize>
     requires { Printed second side.ad.words.now side.ad.bytes.now prints.now × (512 ≤ length prints.now) }
-    ensures { mark_of result ≡ marked (map (numbered second) (find side.entry.ad.words.now side.entry.ad.bytes.now name.now)) }
+    ensures found { mark_of result ≡ marked (map (numbered second) (find side.entry.ad.words.now side.entry.ad.bytes.now name.now)) }
+    ensures small { mark_of result ≤ pair_slots }
 {
     let print = names::fingerprint(name);
     for j in 0..side.counts.definitions {
@@ -65,7 +67,8 @@ fn found_from(
 ) -> Option<usize>
     requires node { i < node_count side.ad.words.now }
     requires prints { Printed second side.ad.words.now side.ad.bytes.now prints.now × Printed (not second) other.ad.words.now other.ad.bytes.now prints.now × (512 ≤ length prints.now) }
-    ensures { mark_of result ≡ cond (is_reference (kind_at side.entry.ad.words.now i)) (marked (map (linked second) (links_from side.entry.ad.words.now side.entry.ad.bytes.now other.entry.ad.words.now other.entry.ad.bytes.now i))) 0 }
+    ensures found { mark_of result ≡ cond (is_reference (kind_at side.entry.ad.words.now i)) (marked (map (linked second) (links_from side.entry.ad.words.now side.entry.ad.bytes.now other.entry.ad.words.now other.entry.ad.bytes.now i))) 0 }
+    ensures small { mark_of result ≤ pair_slots }
 {
     match side.ad.kind(i)? {
         Kind::Own => find_name(side, second, prints, side.ad.reference_name(i)),
@@ -104,7 +107,8 @@ impl<'a> PrintedPair<'a> {
     // Where the name of the node x is found, if it is a reference.
     pub fn found_at(self, x: usize) -> Option<usize>
         requires { Stands self.ads.first.ad.words.now self.ads.second.ad.words.now x }
-        ensures { mark_of result ≡ cond ((graph_of self.entry.ads).ref x) (marked ((graph_of self.entry.ads).links x)) 0 }
+        ensures found { mark_of result ≡ cond ((graph_of self.entry.ads).ref x) (marked ((graph_of self.entry.ads).links x)) 0 }
+        ensures small { mark_of result ≤ pair_slots }
     {
         let AdPair { first, second } = self.ads;
         if x < syntax::NODES {

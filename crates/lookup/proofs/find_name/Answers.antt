@@ -21,10 +21,10 @@ root-requires c = omega (arith, definitions_fit c.args.side.measured)
 pub numbered-requires : goal.numbered-requires
 numbered-requires c = root_small c.args.side.measured c.loop-j-test.true c.root.ensures
 
-pub returns-then-has_name : goal.returns-then-has_name
-returns-then-has_name c =
+pub returns-then-has_name-clause-found : goal.returns-then-has_name-clause-found
+returns-then-has_name-clause-found c =
     sought_found _ _ _ _ c.args.side.measured.definitions_are _ c.loop-j.invariant c.args.second c.loop-j-test.true
-    (sym c.if-has_name.true ∙ c.has_name.ensures) c.root.ensures c.numbered.ensures
+    (sym c.if-has_name.true ∙ c.has_name.ensures) c.root.ensures c.numbered.ensures.value
 
 pub loop-j-preserved : goal.loop-j-preserved
 loop-j-preserved c =
@@ -38,5 +38,5 @@ loop-j-preserved c =
     ] in
     sought_next _ _ _ _ s.measured.definitions_are _ c.loop-j.invariant c.loop-j-test.true other
 
-pub returns : goal.returns
-returns c = sought_none _ _ _ _ c.args.side.measured.definitions_are _ c.loop-j.invariant c.args.second (omega arith)
+pub returns-clause-found : goal.returns-clause-found
+returns-clause-found c = sought_none _ _ _ _ c.args.side.measured.definitions_are _ c.loop-j.invariant c.args.second (omega arith)
