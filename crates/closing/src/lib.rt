@@ -1,15 +1,15 @@
 // The transitions of the loop searches that leave a node which has no link left, and close a component's nodes.
 #![tactic(auto)]
 
-ghost use Rattle.std.specs.Prelude.{◌≡◌, List, ℕ, ◌<◌};
+ghost use Rattle.std.specs.Prelude.{◌≡◌, List, ℕ, ◌≤◌, ◌<◌, length};
 ghost use Rattle.graph.specs.Graph.{Graph};
 ghost use Rattle.graph.specs.Transition.{back_open, back_closed, next_open, transition};
 ghost use Rattle.graph.specs.declared.Place.TheVariants.{Searching, Closing};
-ghost use Rattle.marks.specs.Inner.Memory.{view, nodes_of, marks_room, AtLoopLast, AtClose};
+ghost use Rattle.marks.specs.Inner.Memory.{view, nodes_of, marks_room, mark_words, AtLoopLast, AtClose};
 
 use components::{Search, searched_to};
 use graph::Place;
-use marks::{Mark, Marks};
+use marks::Mark;
 
 // Where loop search k goes on from a node that stays open, and was entered from the node that is given, if any.
 fn back_open(k: usize, n: usize, from: Option<usize>, top: usize, high: usize, low: usize) -> Place
@@ -53,7 +53,8 @@ fn next_open(k: usize, n: usize, x: usize, below: Option<usize>, high: usize) ->
 
 // A loop search leaves its node, which has no link left: open if the node leads to a height below its own, otherwise to be closed with
 // all that is newer.
-pub fn retreat(s: Search, n: usize, marks: &Marks) -> Place
+pub fn retreat(s: Search, n: usize, marks: &[u16]) -> Place
+    requires { (s.k < 4096) × (mark_words ≤ length marks.now) }
     ensures { (G : Graph) (len : ℕ) (ta fl ls : List ℕ) → AtLoopLast G n s.x ta marks.now → view result len ta marks.now fl ls ≡ transition G (view (Searching s.k s.x s.top s.high s.low) len ta marks.now fl ls) }
 {
     if s.low < marks::read(marks, s.x, Mark::Height) {
@@ -65,8 +66,8 @@ pub fn retreat(s: Search, n: usize, marks: &Marks) -> Place
 }
 
 // Loop search k closes the newest open node, top; with x itself the component is complete.
-pub fn close(k: usize, n: usize, x: usize, top: usize, high: usize, marks: &mut Marks) -> Place
-    requires { (k < 4096) × (x < marks_room) × (top < marks_room) }
+pub fn close(k: usize, n: usize, x: usize, top: usize, high: usize, marks: &mut [u16]) -> Place
+    requires { (k < 4096) × (x < marks_room) × (top < marks_room) × (mark_words ≤ length marks.old) }
     ensures { (G : Graph) (len : ℕ) (ta fl ls : List ℕ) → AtClose G n → view result len ta marks.new fl ls ≡ transition G (view (Closing k x top high) len ta marks.old fl ls) }
 {
     let rest = high.saturating_sub(1);

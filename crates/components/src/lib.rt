@@ -6,10 +6,10 @@ ghost use Rattle.std.specs.Prelude.{◌≡◌, List, ℕ, ◌+◌, ◌*◌, ◌�
 ghost use Rattle.graph.specs.Graph.{Graph};
 ghost use Rattle.graph.specs.Transition.{searched_to, transition};
 ghost use Rattle.graph.specs.declared.Place.TheVariants.{Starting, Searching};
-ghost use Rattle.marks.specs.Inner.Memory.{view, Flagged, flagged_at, AtSeek, AtLoopLink, marks_room};
+ghost use Rattle.marks.specs.Inner.Memory.{view, Flagged, flagged_at, AtSeek, AtLoopLink, marks_room, mark_words};
 
 use graph::Place;
-use marks::{Mark, Marks};
+use marks::Mark;
 
 // A loop search, the k-th, that is at the node x: the newest open node and its height, and the least height to which x is known to lead.
 #[derive(Clone, Copy)]
@@ -19,7 +19,7 @@ pub struct Search {
     pub top: usize,
     pub high: usize,
     pub low: usize,
-    pub ghost in_range: { (k < 4096) × (x < marks_room) × (top < marks_room) × (high < 65535) × (low < 65536) },
+    pub ghost at_slot: { x < marks_room },
 }
 
 impl Search {
@@ -44,8 +44,8 @@ pub fn searched_to(k: usize, n: usize) -> Place
 }
 
 // Loop search k begins at y, unless y was seen.
-pub fn seek(k: usize, n: usize, y: usize, marks: &mut Marks) -> Place
-    requires { (k < 4096) × (y < marks_room) }
+pub fn seek(k: usize, n: usize, y: usize, marks: &mut [u16]) -> Place
+    requires { (k < 4096) × (y < marks_room) × (mark_words ≤ length marks.old) }
     ensures { (G : Graph) (len : ℕ) (ta fl ls : List ℕ) → AtSeek G k n y → view result len ta marks.new fl ls ≡ transition G (view (Starting k) len ta marks.old fl ls) }
 {
     if marks::read(marks, y, Mark::Stamp) == 1 {
@@ -58,8 +58,8 @@ pub fn seek(k: usize, n: usize, y: usize, marks: &mut Marks) -> Place
 
 // The link i of x is done with; it closes a cycle where it goes to an open node, and flags x if x is a reference.
 #[tactic(auto, unfolding(marks::specs::Inner::Memory::flagged_at))]
-fn pass(marks: &mut Marks, flag: &mut [usize], x: usize, i: usize, closes: bool)
-    requires { (x < marks_room) × (x < length flag.old) × (i < 3) }
+fn pass(marks: &mut [u16], flag: &mut [usize], x: usize, i: usize, closes: bool)
+    requires { (x < marks_room) × (x < length flag.old) × (i < 3) × (mark_words ≤ length marks.old) }
     ensures { (marks.new ≡ set marks.old (x * 6 + 2) (i + 1)) × (flag.new ≡ flagged_at flag.old x closes) }
 {
     marks::write(marks, x, Mark::Followed, i + 1);
@@ -75,10 +75,11 @@ pub fn explore(
     y: usize,
     i: usize,
     refers: bool,
-    marks: &mut Marks,
+    marks: &mut [u16],
     flag: &mut [usize],
 ) -> Place
-    requires { (i < 3) × (y < marks_room) × (s.x < length flag.old) }
+    requires place { (s.top < marks_room) × (s.high < 65535) × (s.low < 65536) × (i < 3) × (y < marks_room) }
+    requires room { (mark_words ≤ length marks.old) × (s.x < length flag.old) }
     ensures ls_after { (G : Graph) (len : ℕ) (ta ls : List ℕ) → AtLoopLink G s.x y i refers ta marks.old → view result len ta marks.new flag.new ls ≡ transition G (view (Searching s.k s.x s.top s.high s.low) len ta marks.old flag.old ls) }
     ensures flags { Flagged s.x flag.old flag.new }
 {

@@ -59,7 +59,7 @@ flagged_bits (Inside k y) fl fl' h e x = rw e (h x)
 
 -- what holds before each transition
 pub record Going (G : Graph) (S : Sound G) (count : ℕ) (pl : Place) (len : ℕ) (ta ma fl ls : List ℕ) : Type 0 where
-  pub roomy : Roomy ta fl ls
+  pub roomy : Roomy ta ma fl ls
   pub is : view pl len ta ma fl ls ≡ transitions G count (first G)
   pub most : count ≤ total G S
   pub awake : Awake G count
@@ -83,7 +83,7 @@ module _ (G : Graph) (S : Sound G) where
       (fun_ext (λ x. m _)) (fun_ext (λ x. m _)) (fun_ext (λ x. m _)) refl
 
   pub going_first : {pl : Place} {len : ℕ} {ta ma fl ls : List ℕ} → pl ≡ cond (ltb 0 G.size) (Resolving 0) (Between 0) → len ≡ 0 →
-      Roomy ta fl ls → Clear ta → Clear ma → Clear fl → Clear ls → Going G S 0 pl len ta ma fl ls
+      Roomy ta ma fl ls → Clear ta → Clear ma → Clear fl → Clear ls → Going G S 0 pl len ta ma fl ls
   unfolding transitions
   going_first {pl} {len} {ta} {ma} {fl} {ls} e z r a m f l = record {
     roomy = r;
@@ -142,13 +142,14 @@ module _ (G : Graph) (S : Sound G) where
 
       -- the next turn
       pub going_next : {pl' : Place} {len' : ℕ} {ta' ma' fl' ls' : List ℕ} → ended_at pl n ≡ false → view pl' len' ta' ma' fl' ls' ≡ transition G (view pl len ta ma fl ls) →
-          Grows len len' ls ls' → FlaggedFrom pl fl fl' → length ta' ≡ length ta → length fl' ≡ length fl → length ls' ≡ length ls →
+          Grows len len' ls ls' → FlaggedFrom pl fl fl' → length ta' ≡ length ta → length ma' ≡ length ma → length fl' ≡ length fl → length ls' ≡ length ls →
           Going G S (count + 1) pl' len' ta' ma' fl' ls'
-      going_next {fl' = fl'} h e gr fe e₁ e₂ e₃ =
+      going_next {fl' = fl'} h e gr fe e₁ e₂ e₃ e₄ =
           let r = t.roomy in
           record {
             roomy = record {
               target_room = let z = r.target_room in omega arith;
+              marks_room_lem = let z = r.marks_room_lem in omega arith;
               flag_room = let z = r.flag_room in omega arith;
               list_room_lem = let z = r.list_room_lem in omega arith;
             };
@@ -219,7 +220,7 @@ turn_first p re r me ne se e = record {
   roots_are = re;
   searches_are = ne;
   going = going_first (graph_of p) (sound p) (e ∙ ap (λ (u : ℕ). cond (ltb 0 u) (Resolving 0) (Between 0)) se) refl
-      (record { target_room = r.target_room; flag_room = r.flag_room; list_room_lem = r.list_room_lem })
+      (record { target_room = r.target_room; marks_room_lem = let h = ap length me in let k = length-replicate {A = ℕ} mark_words 0 in omega arith; flag_room = r.flag_room; list_room_lem = r.list_room_lem })
       r.target_clear (subst Clear (sym me) (clear_zeros mark_words)) r.flag_clear r.list_clear;
 }
 
@@ -257,9 +258,9 @@ module _ {p : AdPair} {roots : List ℕ} {n count : ℕ} {pl : Place} {len : ℕ
 
   pub turn_next : {pl' : Place} {len' : ℕ} {ta' ma' fl' ls' : List ℕ} → r ≡ false →
       view pl' len' ta' ma' fl' ls' ≡ transition (graph_of p) (view pl len ta ma fl ls) → Grows len len' ls ls' → FlaggedFrom pl fl fl' →
-      length ta' ≡ length ta → length fl' ≡ length fl → length ls' ≡ length ls → Turn p roots n (count + 1) pl' len' ta' ma' fl' ls'
-  turn_next h s g fe e₁ e₂ e₃ = record {
+      length ta' ≡ length ta → length ma' ≡ length ma → length fl' ≡ length fl → length ls' ≡ length ls → Turn p roots n (count + 1) pl' len' ta' ma' fl' ls'
+  turn_next h s g fe e₁ e₂ e₃ e₄ = record {
     roots_are = t.roots_are;
     searches_are = t.searches_are;
-    going = going_next (graph_of p) (sound p) t.going all_searches (sym e ∙ h) s g fe e₁ e₂ e₃;
+    going = going_next (graph_of p) (sound p) t.going all_searches (sym e ∙ h) s g fe e₁ e₂ e₃ e₄;
   }

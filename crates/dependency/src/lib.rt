@@ -11,7 +11,7 @@ ghost use Rattle.dependency.specs.Inner.Asked.{ended_at, Ready};
 use graph::Place;
 use links::AdPair;
 use lookup::{PrintedPair, Roots};
-use marks::{Marks, Position};
+use marks::Position;
 
 // How many transitions the traversal took, how long the list is, and where it began.
 #[derive(Clone, Copy)]
@@ -54,7 +54,7 @@ fn run(
     pair: PrintedPair<'_>,
     roots: &[usize],
     target: &mut [usize],
-    marks: &mut Marks,
+    marks: &mut [u16],
     flag: &mut [usize],
     list: &mut [u64],
 ) -> Taken

@@ -2,8 +2,10 @@
 #![tactic(auto)]
 
 mod pair;
+mod sides;
 
 pub use pair::{AdPair, FormedAd};
+pub use sides::Sides;
 
 // A slot for each node of two ads.
 pub const SLOTS: usize = 2 * syntax::NODES;

@@ -5,14 +5,14 @@ ghost use Rattle.std.specs.Prelude.{◌≡◌, List, ℕ, ◌≤◌, ◌<◌, le
 ghost use Rattle.graph.specs.Graph.{Graph};
 ghost use Rattle.graph.specs.Transition.{back, marked, transition};
 ghost use Rattle.graph.specs.declared.Place.TheVariants.{Resolving, Between, Inside};
-ghost use Rattle.marks.specs.Inner.Memory.{view, nodes_of, marks_room, AtNode, AtStart, AtLink, AtLast, Grows};
+ghost use Rattle.marks.specs.Inner.Memory.{view, nodes_of, marks_room, mark_words, AtNode, AtStart, AtLink, AtLast, Grows};
 
 use graph::Place;
-use marks::{Mark, Marks, Position};
+use marks::{Mark, Position};
 
 // The mark that names a node, if there is one.
 fn mark(node: Option<usize>) -> usize
-    requires { marked (nodes_of node) ≤ marks_room }
+    requires { marked (nodes_of node) < 18446744073709551616 }
     ensures { result ≡ marked (nodes_of node) }
 {
     node.map_or(0, |y| y + 1)
@@ -20,7 +20,7 @@ fn mark(node: Option<usize>) -> usize
 
 // The node x, the i-th of n, is resolved: its name is found at a node, or at none.
 pub fn resolve(i: usize, n: usize, x: usize, found: Option<usize>, target: &mut [usize]) -> Place
-    requires { (i < n) × (x < length target.old) × (marked (nodes_of found) ≤ marks_room) }
+    requires { (i < n) × (x < length target.old) × (marked (nodes_of found) < 18446744073709551616) }
     ensures { (G : Graph) (len : ℕ) (ma fl ls : List ℕ) → AtNode G i n x (marked (nodes_of found)) → view result len target.new ma fl ls ≡ transition G (view (Resolving i) len target.old ma fl ls) }
 {
     target[x] = mark(found);
@@ -32,8 +32,8 @@ pub fn resolve(i: usize, n: usize, x: usize, found: Option<usize>, target: &mut 
 }
 
 // List search k begins at y, unless y is in the list already.
-pub fn begin(k: usize, y: usize, marks: &mut Marks) -> Place
-    requires { (k < 4096) × (y < marks_room) }
+pub fn begin(k: usize, y: usize, marks: &mut [u16]) -> Place
+    requires { (k < 4096) × (y < marks_room) × (mark_words ≤ length marks.old) }
     ensures { (G : Graph) (len : ℕ) (ta fl ls : List ℕ) → AtStart G k y → view result len ta marks.new fl ls ≡ transition G (view (Between k) len ta marks.old fl ls) }
 {
     if marks::read(marks, y, Mark::Stamp) == 2 {
@@ -44,8 +44,8 @@ pub fn begin(k: usize, y: usize, marks: &mut Marks) -> Place
 }
 
 // List search k is at x, and follows its need i, to y: the need is done with if y was seen, and otherwise y is entered.
-pub fn follow(k: usize, x: usize, y: usize, i: usize, marks: &mut Marks) -> Place
-    requires { (x < marks_room) × (y < marks_room) × (i < 3) }
+pub fn follow(k: usize, x: usize, y: usize, i: usize, marks: &mut [u16]) -> Place
+    requires { (x < marks_room) × (y < marks_room) × (i < 3) × (mark_words ≤ length marks.old) }
     ensures { (G : Graph) (len : ℕ) (ta fl ls : List ℕ) → AtLink G x y i ta marks.old fl → view result len ta marks.new fl ls ≡ transition G (view (Inside k x) len ta marks.old fl ls) }
 {
     if marks::read(marks, y, Mark::Stamp) == 2 {

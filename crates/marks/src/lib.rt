@@ -20,9 +20,6 @@ const PER_NODE: usize = 6;
 
 const SLOTS: usize = 2048;
 
-// The marks of all nodes.
-pub type Marks = [u16; 12288];
-
 // A mark of a node.
 #[derive(Clone, Copy)]
 pub enum Mark {
@@ -50,16 +47,16 @@ fn place(x: usize, mark: Mark) -> usize
 }
 
 // A mark of the node x.
-pub fn read(marks: &Marks, x: usize, mark: Mark) -> usize
-    requires { x < marks_room }
+pub fn read(marks: &[u16], x: usize, mark: Mark) -> usize
+    requires { (x < marks_room) × (mark_words ≤ length marks.now) }
     ensures { result ≡ mark_at marks.now (index_of mark) x }
 {
     usize::from(marks[place(x, mark)])
 }
 
 // A mark of the node x becomes a.
-pub fn write(marks: &mut Marks, x: usize, mark: Mark, a: usize)
-    requires { (x < marks_room) × (a < 65536) }
+pub fn write(marks: &mut [u16], x: usize, mark: Mark, a: usize)
+    requires { (x < marks_room) × (a < 65536) × (mark_words ≤ length marks.old) }
     ensures { marks.new ≡ set marks.old (x * 6 + index_of mark) a }
 {
     marks[place(x, mark)] = a as u16;
@@ -76,8 +73,8 @@ fn in_slots(mark: usize) -> Option<usize>
 }
 
 // The node that a mark of the node x names.
-pub fn node(marks: &Marks, x: usize, mark: Mark) -> Option<usize>
-    requires { x < marks_room }
+pub fn node(marks: &[u16], x: usize, mark: Mark) -> Option<usize>
+    requires { (x < marks_room) × (mark_words ≤ length marks.now) }
     ensures { (G : Graph) → G.slots ≡ marks_room → nodes_of result ≡ named G (mark_at marks.now (index_of mark) x) }
 {
     in_slots(read(marks, x, mark))
@@ -85,8 +82,8 @@ pub fn node(marks: &Marks, x: usize, mark: Mark) -> Option<usize>
 
 // The node y is entered from p, by a search with the stamp t; none of its links was followed.
 #[tactic(auto, unfolding(crate::specs::Inner::Memory::fill))]
-pub fn enter(marks: &mut Marks, y: usize, t: usize, p: usize)
-    requires { (y < marks_room) × (t < 65536) × (p < 65536) }
+pub fn enter(marks: &mut [u16], y: usize, t: usize, p: usize)
+    requires { (y < marks_room) × (t < 65536) × (p < 65536) × (mark_words ≤ length marks.old) }
     ensures { marks.new ≡ fill marks.old y 0 (t ∷ p ∷ 0 ∷ []) }
 {
     write(marks, y, Mark::Stamp, t);
@@ -96,8 +93,8 @@ pub fn enter(marks: &mut Marks, y: usize, t: usize, p: usize)
 
 // The node y is open at the height h, above b, and low is saved with it.
 #[tactic(auto, unfolding(crate::specs::Inner::Memory::fill))]
-pub fn put_on(marks: &mut Marks, y: usize, h: usize, b: usize, low: usize)
-    requires { (y < marks_room) × (h < 65536) × (b < 65536) × (low < 65536) }
+pub fn put_on(marks: &mut [u16], y: usize, h: usize, b: usize, low: usize)
+    requires { (y < marks_room) × (h < 65536) × (b < 65536) × (low < 65536) × (mark_words ≤ length marks.old) }
     ensures { marks.new ≡ fill marks.old y 3 (h ∷ b ∷ low ∷ []) }
 {
     write(marks, y, Mark::Height, h);

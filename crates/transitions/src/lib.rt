@@ -5,15 +5,15 @@ ghost use Rattle.std.specs.Prelude.{◌≡◌, List, ℕ, ◌≤◌, ◌<◌, le
 ghost use Rattle.graph.specs.Graph.{Graph};
 ghost use Rattle.graph.specs.Transition.{transition};
 ghost use Rattle.graph.specs.declared.Place.TheVariants.{Resolving, Starting, Searching, Closing, Between, Inside};
-ghost use Rattle.links.specs.Graphs.{graph_of};
-ghost use Rattle.marks.specs.Inner.Memory.{view, Flagged, Roomy, Grows, marks_room};
+ghost use Rattle.links.specs.Graphs.{graph_of, graph_of_sides};
+ghost use Rattle.marks.specs.Inner.Memory.{view, Flagged, Roomy, Grows, marks_room, mark_words};
 ghost use Rattle.transitions.specs.Inner.Asked.{PlaceFits, FlaggedFrom};
 
 use components::Search;
 use graph::Place;
-use links::AdPair;
+use links::{AdPair, Sides};
 use lookup::PrintedPair;
-use marks::{Mark, Marks, Position};
+use marks::{Mark, Position};
 
 // The transition that resolves the node of index i.
 fn resolving(pair: PrintedPair<'_>, i: usize, target: &mut [usize]) -> Place
@@ -25,8 +25,8 @@ fn resolving(pair: PrintedPair<'_>, i: usize, target: &mut [usize]) -> Place
 }
 
 // The transition that begins loop search k.
-fn starting(ads: AdPair<'_>, k: usize, marks: &mut Marks) -> Place
-    requires { k < (graph_of ads).size }
+fn starting(ads: AdPair<'_>, k: usize, marks: &mut [u16]) -> Place
+    requires { (k < (graph_of ads).size) × (mark_words ≤ length marks.old) }
     ensures { (len : ℕ) (ta fl ls : List ℕ) → view result len ta marks.new fl ls ≡ transition (graph_of ads.entry) (view (Starting k) len ta marks.old fl ls) }
 {
     components::seek(k, ads.size(), ads.node_at(k), marks)
@@ -37,25 +37,30 @@ fn searching(
     ads: AdPair<'_>,
     s: Search,
     target: &[usize],
-    marks: &mut Marks,
+    marks: &mut [u16],
     flag: &mut [usize],
 ) -> Place
-    requires { (marks_room ≤ length target.now) × (marks_room ≤ length flag.old) }
+    requires place { (s.k < 4096) × (s.top < marks_room) × (s.high < 65535) × (s.low < 65536) }
+    requires room { (marks_room ≤ length target.now) × (mark_words ≤ length marks.old) × (marks_room ≤ length flag.old) }
     ensures by_index { (len : ℕ) (ls : List ℕ) → view result len target.now marks.new flag.new ls ≡ transition (graph_of ads.entry) (view (Searching s.k s.x s.top s.high s.low) len target.now marks.old flag.old ls) }
     ensures flags { Flagged s.x flag.old flag.new }
 {
+    let sides = Sides {
+        first: ads.first.ad,
+        second: ads.second.ad,
+    };
     let i = marks::read(marks, s.x, Mark::Followed);
-    if i < ads.led_count(target, s.x) {
-        let y = ads.led_to(target, s.x, i);
-        components::explore(s, y, i, ads.refers(s.x), marks, flag)
+    if i < sides.led_count(target, s.x) {
+        let y = sides.led_to(target, s.x, i);
+        components::explore(s, y, i, sides.refers(s.x), marks, flag)
     } else {
         closing::retreat(s, ads.size(), marks)
     }
 }
 
 // The transition that begins list search k.
-fn between(roots: &[usize], k: usize, marks: &mut Marks) -> Place
-    requires { (k < length roots.now) × (length roots.now ≤ 4) × ((i : ℕ) → i < length roots.now → get_or roots.now i 0 < marks_room) }
+fn between(roots: &[usize], k: usize, marks: &mut [u16]) -> Place
+    requires { (mark_words ≤ length marks.old) × (k < length roots.now) × (length roots.now ≤ 4) × ((i : ℕ) → i < length roots.now → get_or roots.now i 0 < marks_room) }
     ensures { (G : Graph) (len : ℕ) (ta fl ls : List ℕ) → roots.now ≡ G.roots → view result len ta marks.new fl ls ≡ transition G (view (Between k) len ta marks.old fl ls) }
 {
     listing::begin(k, roots[k], marks)
@@ -63,23 +68,23 @@ fn between(roots: &[usize], k: usize, marks: &mut Marks) -> Place
 
 // A transition of list search k at the node x.
 fn inside(
-    ads: AdPair<'_>,
+    sides: Sides<'_>,
     k: usize,
     x: usize,
     len: usize,
     target: &[usize],
-    marks: &mut Marks,
+    marks: &mut [u16],
     flag: &[usize],
     list: &mut [u64],
 ) -> Position
     requires place { (x < marks_room) × (k < 4) }
-    requires room { Roomy target.now flag.now list.old × (len < length list.old) }
-    ensures by_index { view result.place result.len target.now marks.new flag.now list.new ≡ transition (graph_of ads.entry) (view (Inside k x) len target.now marks.old flag.now list.old) }
+    requires room { Roomy target.now marks.old flag.now list.old × (len < length list.old) }
+    ensures by_index { view result.place result.len target.now marks.new flag.now list.new ≡ transition (graph_of_sides sides.entry) (view (Inside k x) len target.now marks.old flag.now list.old) }
     ensures room { Grows len result.len list.old list.new }
 {
     let i = marks::read(marks, x, Mark::Followed);
-    if i < ads.need_count(target, flag, x) {
-        let y = ads.led_to(target, x, i);
+    if i < sides.need_count(target, flag, x) {
+        let y = sides.led_to(target, x, i);
         return Position {
             place: listing::follow(k, x, y, i, marks),
             len,
@@ -94,12 +99,12 @@ pub fn transition(
     roots: &[usize],
     s: Position,
     target: &mut [usize],
-    marks: &mut Marks,
+    marks: &mut [u16],
     flag: &mut [usize],
     list: &mut [u64],
 ) -> Position
     requires roots { roots.now ≡ (graph_of pair.ads).roots }
-    requires room { Roomy target.old flag.old list.old × PlaceFits pair.ads.first.ad.words.now pair.ads.second.ad.words.now (length roots.now) s.len list.old s.place }
+    requires room { Roomy target.old marks.old flag.old list.old × PlaceFits pair.ads.first.ad.words.now pair.ads.second.ad.words.now (length roots.now) s.len list.old s.place }
     ensures list_after { view result.place result.len target.new marks.new flag.new list.new ≡ transition (graph_of pair.entry.ads) (view s.place s.len target.old marks.old flag.old list.old) }
     ensures room { Grows s.len result.len list.old list.new }
     ensures flags { FlaggedFrom s.place flag.old flag.new }
@@ -136,6 +141,12 @@ pub fn transition(
             place: between(roots, k, marks),
             len,
         },
-        Place::Inside(k, x) => inside(ads, k, x, len, target, marks, flag, list),
+        Place::Inside(k, x) => {
+            let sides = Sides {
+                first: ads.first.ad,
+                second: ads.second.ad,
+            };
+            inside(sides, k, x, len, target, marks, flag, list)
+        }
     }
 }

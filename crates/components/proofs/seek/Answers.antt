@@ -1,4 +1,4 @@
-use Rattle.std.proofs.Common.{sym, ◌∙◌, arith}
+use Rattle.std.proofs.Common.{sym, ◌∙◌}
 use Rattle.components.proofs.Loops.{seek_skip, seek_enter}
 use Rattle.components.proofs.seek.Goals as goal
 
@@ -8,4 +8,4 @@ returns-then-read-eq1 c = λ G len ta fl ls a. seek_skip a len ta _ fl ls (c.sea
 
 pub returns : goal.returns
 returns c = λ G len ta fl ls a. rw (c.put_on.ensures, c.enter.ensures) (seek_enter a len ta _ fl ls c.requires.1
-    (omega (arith, c.told-marks)) (λ e. c.if-read-eq1.false (c.read.ensures ∙ e)))
+    c.requires.2 (λ e. c.if-read-eq1.false (c.read.ensures ∙ e)))

@@ -18,7 +18,7 @@ loop-pair-smaller c = omega (arith, turn_small c.loop-pair.invariant c.ended.ens
 pub loop-pair-preserved : goal.loop-pair-preserved
 loop-pair-preserved c =
     turn_next c.loop-pair.invariant c.ended.ensures c.loop-pair-test.true c.transition-s.ensures.list_after c.transition-s.ensures.room
-    c.transition-s.ensures.flags c.transition-s.auto.target c.transition-s.auto.flag c.transition-s.auto.list
+    c.transition-s.ensures.flags c.transition-s.auto.target c.transition-s.auto.marks c.transition-s.auto.flag c.transition-s.auto.list
 
 pub returns : goal.returns
 returns c = turn_end c.loop-pair.invariant c.ended.ensures c.loop-pair-test.false

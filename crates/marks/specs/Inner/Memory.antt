@@ -117,8 +117,9 @@ pub record Grows (len len' : ℕ) (list list' : List ℕ) : Type 0 where
 abbrev pub Clear : List ℕ → Type 0
 Clear l = (i : ℕ) → get_or l i 0 ≡ 0
 
--- the lent slices of marks, and of the list, long enough
-pub record Roomy (target flag list : List ℕ) : Type 0 where
+-- slices of marks, and of the list, long enough
+pub record Roomy (target marks flag list : List ℕ) : Type 0 where
   pub target_room : marks_room ≤ length target
+  pub marks_room_lem : mark_words ≤ length marks
   pub flag_room : marks_room ≤ length flag
   pub list_room_lem : marks_room ≤ length list

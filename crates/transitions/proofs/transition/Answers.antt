@@ -13,20 +13,27 @@ resolving-requires c =
 pub starting-requires : goal.starting-requires
 starting-requires c =
     let f = fits_at c.args.pair.ads.first.ad.words.now c.args.pair.ads.second.ad.words.now (length c.args.roots.now) c.args.s.len c.args.list.now c.args.s.place c.requires.room.1 c.in-Starting.is in
-    omega (arith, f, size_counts c.args.pair.ads)
+    (omega (arith, f, size_counts c.args.pair.ads), c.requires.room.0.marks_room_lem)
 
 pub invariant_of-search : goal.invariant_of-search
-invariant_of-search c =
+invariant_of-search c = record { at_slot = (fits_at c.args.pair.ads.first.ad.words.now c.args.pair.ads.second.ad.words.now (length c.args.roots.now) c.args.s.len c.args.list.now c.args.s.place c.requires.room.1 c.in-Searching.is).0 }
+
+pub searching-requires : goal.searching-requires
+searching-requires c =
     let f = fits_at c.args.pair.ads.first.ad.words.now c.args.pair.ads.second.ad.words.now (length c.args.roots.now) c.args.s.len c.args.list.now c.args.s.place c.requires.room.1 c.in-Searching.is in
-    record { in_range = (omega (arith, f.2, size_counts c.args.pair.ads, size_few c.args.pair.ads), f.0, f.1, f.3, f.4) }
+    record {
+      place = (omega (arith, f.2, size_counts c.args.pair.ads, size_few c.args.pair.ads), f.1, f.3, f.4);
+      room = (c.requires.room.0.target_room, c.requires.room.0.marks_room_lem, c.requires.room.0.flag_room);
+    }
 
 pub close-requires : goal.close-requires
 close-requires c =
     let f = fits_at c.args.pair.ads.first.ad.words.now c.args.pair.ads.second.ad.words.now (length c.args.roots.now) c.args.s.len c.args.list.now c.args.s.place c.requires.room.1 c.in-Closing.is in
-    (omega (arith, f.2, size_counts c.args.pair.ads, size_few c.args.pair.ads), f.0, f.1)
+    (omega (arith, f.2, size_counts c.args.pair.ads, size_few c.args.pair.ads), f.0, f.1, c.requires.room.0.marks_room_lem)
 
 pub between-requires : goal.between-requires
 between-requires c = (
+  c.requires.room.0.marks_room_lem,
   fits_at c.args.pair.ads.first.ad.words.now c.args.pair.ads.second.ad.words.now (length c.args.roots.now) c.args.s.len c.args.list.now c.args.s.place c.requires.room.1 c.in-Between.is,
   roots_few c.args.pair.ads.first.ad.bytes.now c.args.pair.ads.second.ad.bytes.now c.args.pair.ads.first.measured c.args.pair.ads.second.measured c.requires.roots,
   roots_small c.args.pair.ads.first.ad.bytes.now c.args.pair.ads.second.ad.bytes.now c.args.pair.ads.first.measured c.args.pair.ads.second.measured c.requires.roots,
