@@ -36,7 +36,8 @@ pub fn need_value(marked: Marked<'_>, table: &[u64], x: usize, i: usize) -> Valu
     ensures { result ≡ value_in (map (λ y. seen (slot_at table.now y)) (needs_of marked.entry x)) i }
 {
     if marked.flag[x] != 1 && i < marked.sides.led_count(marked.target, x) {
-        value_in(table, marked.sides.led_to(marked.target, x, i))
+        let y = marked.sides.led_to(marked.target, x, i);
+        value_in(table, y)
     } else {
         Value::Undefined
     }
