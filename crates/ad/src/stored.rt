@@ -1,6 +1,8 @@
 ghost use Rattle.std.specs.Prelude.{◌≡◌, ◌≤◌, ◌<◌, length};
 ghost use Rattle.ad.specs.Layout.{ad_words};
 
+use syntax::Binary;
+
 // A stored ad as it is lent: the words of its nodes and definitions, and the bytes of its names and strings. The words have the room of
 // an ad; what they hold may be anything.
 #[derive(Clone, Copy)]
@@ -13,15 +15,35 @@ pub struct StoredAd<'a> {
 impl<'a> StoredAd<'a> {
     ghost use Rattle.syntax.specs.Bounds.{max_definitions, max_nodes};
     ghost use Rattle.text.specs.Strings.{same_name};
-    ghost use Rattle.ad.specs.Stored.{kind_of, kind_at, operand_at, offset_at, length_at, root_at, bytes_at, name_at};
+    ghost use Rattle.ad.specs.Stored.{kind_of, kind_at, binary_of, operand_at, offset_at, length_at, root_at, bytes_at, name_at};
     ghost use Rattle.ad.specs.Inner.Names.{defined_in};
+
+    // The number that stands for the kind of node i, whatever it is.
+    pub fn code(self, i: usize) -> u64
+        requires { i < max_nodes }
+        ensures { result ≡ kind_at self.entry.words.now i }
+    {
+        self.words[4 * i]
+    }
 
     // The kind of node i; none where its number is no kind's.
     pub fn kind(self, i: usize) -> Option<super::Kind>
         requires { i < max_nodes }
         ensures { result ≡ kind_of (kind_at self.entry.words.now i) }
     {
-        super::Kind::try_from(self.words[4 * i]).ok()
+        super::Kind::try_from(self.code(i)).ok()
+    }
+
+    // The operator of two operands that node i is.
+    pub fn binary(self, i: usize) -> Binary
+        requires node { i < max_nodes }
+        requires operator { (12 < kind_at self.words.now i) × (kind_at self.words.now i < 28) }
+        ensures { result ≡ binary_of (kind_at self.entry.words.now i) }
+    {
+        match self.kind(i).unwrap() {
+            super::Kind::Binary(j) => j,
+            _ => unreachable!(),
+        }
     }
 
     // Node i's operand or datum j.

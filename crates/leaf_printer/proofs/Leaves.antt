@@ -12,7 +12,10 @@ use Rattle.text.specs.Bytes.{bytes}
 use Rattle.syntax.specs.Tree.{Literal, undefined, error, boolean, integer, real, string, own, other, Expr, literal, reference}
 use Rattle.syntax.specs.Print.{decimal, literal_text, reference_text, printed}
 use Rattle.syntax.specs.Inner.Lexeme.{is_name, is_string, is_real}
-use Rattle.ad.specs.Stored.{kind_at, operand_at, bytes_at}
+use Rattle.std.proofs.Common.{Option, Some, None, IsSome}
+use Rattle.ad.specs.declared.kind.Kind.{Kind}
+use Rattle.ad.specs.Stored.{kind_of, kind_at, operand_at, bytes_at}
+use Rattle.tree_check.proofs.Tests.{leaf_none}
 use Rattle.writer.specs.Inner.Put.{Near}
 use Rattle.tree_check.specs.Inner.Decode.{Found, got, bad, test, keyword_fits, boolean_fits, integer_fits, stands_at, leaf_of, leaf_at}
 
@@ -25,6 +28,17 @@ got_same h = cc
 inv_test : (t : Bool) (go : Unit {0} → Found) (e : Expr) → test t go ≡ got e → (t ≡ true) × (go tt ≡ got e)
 inv_test true go e h = (refl, h)
 inv_test false go e h = absurd (none h)
+
+third : (w b : List ℕ) (i o : ℕ) (e : Expr) → leaf_at w b i o ≡ got e → operand_at w i 2 ≡ 0
+unfolding leaf_of
+third w b i o e h = eqb-true _ 0 (inv_test (eqb (operand_at w i 2) 0) _ e h).0
+
+-- a node with a leaf is of some kind
+pub leaf_kind : (w b : List ℕ) (i o : ℕ) (e : Expr) → leaf_at w b i o ≡ got e → (r : Option Kind) → r ≡ kind_of (kind_at w i) → IsSome r
+leaf_kind w b i o e h (Some k) q = refl
+leaf_kind w b i o e h None q =
+    let z = third w b i o e h in
+    absurd (none (sym (leaf_none w b i o _ _ refl refl (operand_at w i 2) refl z (sym q)) ∙ h))
 
 pub near_as : (at : ℕ) (t u : List ℕ) → t ≡ u → Near at t → Near at u
 near_as at t u e n = rw e at n

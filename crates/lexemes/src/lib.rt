@@ -1,7 +1,7 @@
 // Names and literals: which ones a text can write, and how long they print.
 #![tactic(auto)]
 
-ghost use Rattle.std.specs.Prelude.{◌≡◌, ◌&&◌, ◌||◌, ◌+◌, ◌*◌, ◌/◌, ◌≤◌, length};
+ghost use Rattle.std.specs.Prelude.{◌≡◌, ◌+◌, ◌*◌, ◌/◌, ◌≤◌, length};
 ghost use Rattle.syntax.specs.Bounds.{string_bytes};
 ghost use Rattle.text.specs.Bytes.{continues_name};
 ghost use Rattle.syntax.specs.Tree.{real, string};
@@ -9,97 +9,69 @@ ghost use Rattle.syntax.specs.Token.{reserved};
 ghost use Rattle.syntax.specs.Print.{decimal, escaped, literal_text};
 ghost use Rattle.syntax.specs.Inner.Lexeme.{every, is_one_of, is_name, in_string, is_string, is_real};
 
-pub fn both(a: bool, b: bool) -> bool
-    ensures { result ≡ (a && b) }
-{
-    if a { b } else { false }
-}
-
-pub fn either(a: bool, b: bool) -> bool
-    ensures { result ≡ (a || b) }
-{
-    if a { true } else { b }
-}
-
 // Whether a Name can go on with each of these bytes.
 fn go_on(name: &[u8]) -> bool
     ensures { result ≡ every continues_name name.now }
 {
-    let mut i = 0;
-    while i < name.len() {
-        if text::continues_name(name[i]) {
-            i += 1;
-        } else {
-            return false;
-        }
-    }
-    true
+    name.iter().all(|b| text::continues_name(*b))
 }
 
+#[tactic(auto, unfolding(syntax::specs::Inner::Lexeme::is_one_of, syntax::specs::Token::reserved, text::specs::Bytes::bytes))]
 fn is_reserved(name: &[u8]) -> bool
     ensures { result ≡ is_one_of reserved name.now }
 {
-    let a = either(
-        text::same_name(b"true", name),
-        text::same_name(b"false", name),
-    );
-    let b = either(
-        text::same_name(b"undefined", name),
-        text::same_name(b"error", name),
-    );
-    let c = either(text::same_name(b"is", name), text::same_name(b"isnt", name));
-    let d = either(
-        text::same_name(b"parent", name),
-        text::same_name(b"other", name),
-    );
-    either(either(a, b), either(c, d))
+    text::same_name(b"true", name)
+        || text::same_name(b"false", name)
+        || text::same_name(b"undefined", name)
+        || text::same_name(b"error", name)
+        || text::same_name(b"is", name)
+        || text::same_name(b"isnt", name)
+        || text::same_name(b"parent", name)
+        || text::same_name(b"other", name)
 }
 
 // Whether some bytes are a Name that is not reserved.
+#[tactic(auto, unfolding(syntax::specs::Inner::Lexeme::is_name))]
 pub fn is_name(name: &[u8]) -> bool
     ensures { result ≡ is_name name.now }
 {
-    if name.len() == 0 {
-        return false;
+    match name.first() {
+        Some(b) => text::starts_name(*b)
+            && go_on(name)
+            && name.len() <= syntax::NAME_BYTES
+            && !is_reserved(name),
+        None => false,
     }
-    let starts = both(text::starts_name(name[0]), go_on(name));
-    let short = name.len() <= syntax::NAME_BYTES;
-    both(starts, both(short, !is_reserved(name)))
 }
 
 // Whether a string can hold this byte.
+#[tactic(auto, unfolding(syntax::specs::Inner::Lexeme::in_string))]
 fn in_string(b: u8) -> bool
     ensures { result ≡ in_string b }
 {
-    either(both(b' ' <= b, b <= b'~'), either(b == b'\n', b == b'\t'))
+    matches!(b, b' '..=b'~' | b'\n' | b'\t')
 }
 
 fn string_bytes(s: &[u8]) -> bool
     ensures { result ≡ every in_string s.now }
 {
-    let mut i = 0;
-    while i < s.len() {
-        if in_string(s[i]) {
-            i += 1;
-        } else {
-            return false;
-        }
-    }
-    true
+    s.iter().all(|b| in_string(*b))
 }
 
 // Whether some bytes are a string after escapes.
+#[tactic(auto, unfolding(syntax::specs::Inner::Lexeme::is_string))]
 pub fn is_string(s: &[u8]) -> bool
     ensures { result ≡ is_string s.now }
 {
-    both(string_bytes(s), s.len() <= syntax::STRING_BYTES)
+    string_bytes(s) && s.len() <= syntax::STRING_BYTES
 }
 
 // Whether a Real can have these digits, and so many of them after its point.
+#[tactic(auto, unfolding(syntax::specs::Inner::Lexeme::is_real))]
 pub fn is_real(digits: u64, places: u64) -> bool
     ensures { result ≡ is_real digits places }
 {
-    both(digits < 1000000000000000, both(1 <= places, places < 15))
+    digits < 1000000000000000 && 1 <= places && places < 15
 }
 
 // How long an Integer prints.
@@ -124,22 +96,14 @@ pub fn real_length(v: u64, places: u64) -> usize
 }
 
 // How long a byte of a string prints.
+#[tactic(auto, unfolding(syntax::specs::Print::escaped, text::specs::Bytes::bytes))]
 fn escaped_length(b: u8) -> usize
     ensures { (result ≡ length (escaped b)) × (result ≤ 2) }
 {
-    if b == b'"' {
-        return 2;
+    match b {
+        b'"' | b'\\' | b'\n' | b'\t' => 2,
+        _ => 1,
     }
-    if b == b'\\' {
-        return 2;
-    }
-    if b == b'\n' {
-        return 2;
-    }
-    if b == b'\t' {
-        return 2;
-    }
-    1
 }
 
 // How long a string prints.
@@ -147,11 +111,9 @@ pub fn string_length(s: &[u8]) -> usize
     requires { length s.now ≤ string_bytes }
     ensures { (result ≡ length (literal_text (string s.now))) × (result ≤ 2 * length s.now + 2) }
 {
-    let mut i = 0;
-    let mut n = 0;
-    while i < s.len() {
-        n += escaped_length(s[i]);
-        i += 1;
+    let mut n = 2;
+    for b in s {
+        n += escaped_length(*b);
     }
-    n + 2
+    n
 }

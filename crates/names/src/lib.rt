@@ -16,11 +16,9 @@ fn mix(h: u32, b: u8) -> u32
 pub fn fingerprint(name: &[u8]) -> u32
     ensures { result ≡ fingerprint_of name.now }
 {
-    let mut h: u32 = 0;
-    let mut i = 0;
-    while i < name.len() {
-        h = mix(h, name[i]);
-        i += 1;
+    let mut h = 0;
+    for b in name {
+        h = mix(h, *b);
     }
     h
 }

@@ -1,24 +1,14 @@
 // Where a byte of a text stands for a person: its line and its column.
 #![tactic(auto)]
 
-ghost use Rattle.std.specs.Prelude.{◌≡◌, ◌+◌, ◌-◌, ◌^◌, ◌<◌, min};
+ghost use Rattle.std.specs.Prelude.{◌≡◌, ◌+◌, ◌-◌, ◌^◌, ◌<◌};
 ghost use Rattle.positions.specs.Positions.{line_after, column_after, Stands};
 
 // A line and a column, both from 1.
-#[derive(Clone, Copy)]
+#[derive(Clone, Copy, PartialEq, Eq)]
 pub struct Position {
     pub line: usize,
     pub column: usize,
-}
-
-// The smaller of two numbers.
-pub fn least(a: usize, b: usize) -> usize
-    ensures { result ≡ min a b }
-{
-    if a < b {
-        return a;
-    }
-    b
 }
 
 // Behind one more byte: how many lines end before, and how many bytes of the last stand before.
@@ -27,14 +17,15 @@ fn behind(p: Position, b: u8) -> Position
     ensures { (result.line ≡ line_after p.line b) × (result.column ≡ column_after p.column b) }
 {
     if b == b'\n' {
-        return Position {
+        Position {
             line: p.line + 1,
             column: 0,
-        };
-    }
-    Position {
-        line: p.line,
-        column: p.column + 1,
+        }
+    } else {
+        Position {
+            line: p.line,
+            column: p.column + 1,
+        }
     }
 }
 
@@ -42,12 +33,10 @@ fn behind(p: Position, b: u8) -> Position
 pub fn locate(text: &[u8], place: usize) -> Position
     ensures { Stands text.now place result.line result.column }
 {
-    let end = least(place, text.len());
+    let end = place.min(text.len());
     let mut p = Position { line: 0, column: 0 };
-    let mut i = 0;
-    while i < end {
-        p = behind(p, text[i]);
-        i += 1;
+    for b in &text[..end] {
+        p = behind(p, *b);
     }
     Position {
         line: p.line + 1,

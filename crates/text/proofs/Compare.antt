@@ -1,111 +1,99 @@
--- Two strings compared from a place on, one byte at a time; then the same for their lower case. Assumes nothing.
-use mathlib.Core.Path.{◌≡◌, refl, sym, ap, ◌∙◌}
-use mathlib.Core.Bool.{Bool, true, false, cond, ◌&&◌}
+-- Strings compared: which are the same, and their order, one byte at a time in lower case. Assumes nothing.
+use mathlib.Core.Path.{◌≡◌, refl, sym, ◌∙◌}
+use mathlib.Core.Bool.{Bool, true, false}
 use mathlib.Core.List.{List, [], ◌∷◌, map}
-use Prim.Native.Nat.{ℕ, suc, ◌+◌, ◌≤◌, ◌<◌}
+use Prim.Native.Nat.{ℕ, ◌+◌, ◌<◌, min}
 use native.Mathlib.Numerals.{add-one}
 use native.Mathlib.Omega.{arith}
-use lib.Dec.{ltb, eqb}
+use lib.Dec.{eqb}
 use lib.ListN.{length, drop, get_or, drop_of_length-le, length-map, get_or-map}
 use lib.Seq.{drop-cons}
-use borrow.Author.Tests.{lt-ltb, le-ltb, eq-eqb, ne_eqb}
+use borrow.Author.Tests.{eq-eqb}
+use Rattle.std.proofs.Common.{nat_cmp}
+use Rattle.std.specs.Char.{to_ascii_lowercase}
+use Rattle.std.specs.Ordering.{MatchOrdering, is_ne, ordering_then}
+use Rattle.std.specs.declared.cmp.Ordering.{Ordering}
+use Rattle.std.specs.declared.cmp.Ordering.TheVariants.{Less, Equal, Greater}
+use Rattle.std.proofs.lemmas.Bool.Decides.{nat_tests}
+use Rattle.std.proofs.lemmas.Cmp.{ranked}
 use Rattle.text.specs.Bytes.{lower_case}
 use Rattle.text.specs.Strings.{same_bytes, same_name, bytes_order}
-use Rattle.text.specs.declared.Order.{Order}
-use Rattle.text.specs.declared.Order.TheVariants.{Less, Same, Greater}
+use Rattle.text.specs.Laws.Booleans.{both}
 
--- ---- byte for byte
-pub unequal : (s t : List ℕ) → (length s ≡ length t → ⊥) → same_bytes s t ≡ false
+-- ---- the same bytes
+same_itself : (s : List ℕ) → same_bytes s s ≡ true
 unfolding same_bytes
-unequal [] [] n = absurd (n refl)
-unequal [] (y ∷ ys) n = refl
-unequal (x ∷ xs) [] n = refl
-unequal (x ∷ xs) (y ∷ ys) n = ap (λ (b : Bool). eqb x y && b) (unequal xs ys (λ e. n (ap suc e))) ∙ none (eqb x y)
+same_itself [] = refl
+same_itself (x ∷ xs) = rw (eq-eqb x x refl, same_itself xs)
+
+same_told : (s t : List ℕ) → same_bytes s t ≡ true → s ≡ t
+unfolding same_bytes
+same_told [] [] e = refl
+same_told [] (y ∷ ys) e = cc
+same_told (x ∷ xs) [] e = cc
+same_told (x ∷ xs) (y ∷ ys) e =
+    let h = both (eqb x y) (same_bytes xs ys) e in
+    let a : x ≡ y = grind (arith, nat_tests) in
+    let b = same_told xs ys h.1 in
+    cc
+
+lower_alike : (b : ℕ) → to_ascii_lowercase b ≡ lower_case b
+unfolding lower_case
+lower_alike b = grind (arith, nat_tests)
+
+lowered_alike : (s : List ℕ) → map to_ascii_lowercase s ≡ map lower_case s
+lowered_alike [] = refl
+lowered_alike (b ∷ s) = rw (lower_alike b, lowered_alike s)
+
+-- what std's comparison without regard to case answers
+pub names_compared : (r : Bool) (s t : List ℕ) → (r ≡ true → map to_ascii_lowercase s ≡ map to_ascii_lowercase t) → (map to_ascii_lowercase s ≡ map to_ascii_lowercase t → r ≡ true) → r ≡ same_name s t
+unfolding same_name
+names_compared true s t f g =
+    let e = sym (lowered_alike s) ∙ f refl ∙ lowered_alike t in
+    rw e (sym (same_itself (map lower_case t)))
+names_compared false s t f g = unlike (same_bytes (map lower_case s) (map lower_case t)) (λ h. g (lowered_alike s ∙ same_told _ _ h ∙ sym (lowered_alike t)))
   where
-    none : (b : Bool) → b && false ≡ false
-    none true = refl
-    none false = refl
+    unlike : (b : Bool) → (b ≡ true → false ≡ true) → false ≡ b
+    unlike true h = h refl
+    unlike false h = refl
 
-module _ (s t : List ℕ) (i : ℕ) (e : length s ≡ length t) where
-  each : i < length s → same_bytes (drop i s) (drop i t) ≡ eqb (get_or s i 0) (get_or t i 0) && same_bytes (drop (i + 1) s) (drop (i + 1) t)
-  unfolding same_bytes
-  each h = rw (drop-cons s i 0 h, drop-cons t i 0 (let k : i < length t = omega arith in k), add-one i)
-
-  pub differ : i < length s → (get_or s i 0 ≡ get_or t i 0 → ⊥) → same_bytes (drop i s) (drop i t) ≡ false
-  differ h n = each h ∙ rw (ne_eqb (get_or s i 0) (get_or t i 0) n)
-
-  pub agree : i < length s → get_or s i 0 ≡ get_or t i 0 → same_bytes (drop i s) (drop i t) ≡ same_bytes (drop (i + 1) s) (drop (i + 1) t)
-  agree h q = each h ∙ rw (eq-eqb (get_or s i 0) (get_or t i 0) q)
-
-  pub finished : length s ≤ i → same_bytes (drop i s) (drop i t) ≡ true
-  unfolding same_bytes
-  finished h = rw (drop_of_length-le s h, drop_of_length-le t (let k : length t ≤ i = omega arith in k))
-
--- ---- in lower case: x and y are the bytes at the place
+-- ---- the order
 abbrev pub lowered : List ℕ → List ℕ
 lowered s = map lower_case s
 
-pub lowered_length : (s : List ℕ) → length (lowered s) ≡ length s
+lowered_length : (s : List ℕ) → length (lowered s) ≡ length s
 lowered_length s = length-map s lower_case
 
 lowered_at : (s : List ℕ) (i : ℕ) → get_or (lowered s) i 0 ≡ lower_case (get_or s i 0)
 unfolding lower_case
 lowered_at s i = get_or-map lower_case s i 0
 
-pub unequal_names : (s t : List ℕ) → (length s ≡ length t → ⊥) → same_name s t ≡ false
-unfolding same_name
-unequal_names s t n = unequal (lowered s) (lowered t) (λ e. n (sym (lowered_length s) ∙ e ∙ lowered_length t))
-
-module _ (s t : List ℕ) (i x y : ℕ) (e : length s ≡ length t) (p : x ≡ lower_case (get_or s i 0)) (q : y ≡ lower_case (get_or t i 0)) (h : i < length s) where
-  pub names_differ : (x ≡ y → ⊥) → same_bytes (drop i (lowered s)) (drop i (lowered t)) ≡ false
-  names_differ n =
-      differ (lowered s) (lowered t) i (lowered_length s ∙ e ∙ sym (lowered_length t)) (rw (lowered_length s) h)
-      (λ z. n (p ∙ sym (lowered_at s i) ∙ z ∙ lowered_at t i ∙ sym q))
-
-  pub names_agree : x ≡ y → same_bytes (drop i (lowered s)) (drop i (lowered t)) ≡ same_bytes (drop (i + 1) (lowered s)) (drop (i + 1) (lowered t))
-  names_agree z =
-      agree (lowered s) (lowered t) i (lowered_length s ∙ e ∙ sym (lowered_length t)) (rw (lowered_length s) h)
-      (lowered_at s i ∙ sym p ∙ z ∙ q ∙ sym (lowered_at t i))
-
-pub names_finished : (s t : List ℕ) (i : ℕ) → length s ≡ length t → length s ≤ i → same_bytes (drop i (lowered s)) (drop i (lowered t)) ≡ true
-names_finished s t i e h =
-    finished (lowered s) (lowered t) i (lowered_length s ∙ e ∙ sym (lowered_length t))
-    (rw (lowered_length s) h)
-
--- ---- the order
-pick : ℕ → ℕ → Order → Order
-pick a b o = cond (ltb a b) Less (cond (ltb b a) Greater o)
-
 module _ (s t : List ℕ) (i : ℕ) where
-  step : (x y : ℕ) → i < length s → i < length t → x ≡ lower_case (get_or s i 0) → y ≡ lower_case (get_or t i 0)
-      → bytes_order (drop i (lowered s)) (drop i (lowered t)) ≡ pick x y (bytes_order (drop (i + 1) (lowered s)) (drop (i + 1) (lowered t)))
-  unfolding bytes_order pick
+  abbrev pub rest : ℕ → Ordering
+  rest k = bytes_order (drop k (lowered s)) (drop k (lowered t))
+
+  step : (x y : ℕ) → i < length s → i < length t → x ≡ get_or s i 0 → y ≡ get_or t i 0 → rest i ≡ ordering_then (nat_cmp (lower_case x) (lower_case y)) (rest (i + 1))
+  unfolding bytes_order
   step x y h k p q =
-      rw (drop-cons (lowered s) i 0 (rw (lowered_length s) h), drop-cons (lowered t) i 0 (rw (lowered_length t) k), add-one i, lowered_at s i, lowered_at t i, p, q)
+      rw (drop-cons (lowered s) i 0 (rw (lowered_length s) h), drop-cons (lowered t) i 0 (rw (lowered_length t) k), add-one i, lowered_at s i, lowered_at t i, p, q) (grind (arith, nat_tests))
 
-  pub less : (x y : ℕ) → i < length s → i < length t → x ≡ lower_case (get_or s i 0) → y ≡ lower_case (get_or t i 0) → x < y
-      → bytes_order (drop i (lowered s)) (drop i (lowered t)) ≡ Less
-  unfolding pick
-  less x y h k p q l = step x y h k p q ∙ rw (lt-ltb x y l)
+  -- the first bytes that differ decide
+  pub decided : (x y : ℕ) (r : Ordering) → i < length s → i < length t → x ≡ get_or s i 0 → y ≡ get_or t i 0 → r ≡ nat_cmp (lower_case x) (lower_case y) → is_ne r ≡ true → rest i ≡ r
+  decided x y Less h k p q e n = step x y h k p q ∙ rw (← e) refl
+  decided x y Equal h k p q e n = cc
+  decided x y Greater h k p q e n = step x y h k p q ∙ rw (← e) refl
 
-  pub greater : (x y : ℕ) → i < length s → i < length t → x ≡ lower_case (get_or s i 0) → y ≡ lower_case (get_or t i 0) → y < x
-      → bytes_order (drop i (lowered s)) (drop i (lowered t)) ≡ Greater
-  unfolding pick
-  greater x y h k p q l = step x y h k p q ∙ rw (le-ltb x y (let z : y ≤ x = omega arith in z), lt-ltb y x l)
+  pub next : (x y : ℕ) (r : Ordering) → i < length s → i < length t → x ≡ get_or s i 0 → y ≡ get_or t i 0 → r ≡ nat_cmp (lower_case x) (lower_case y) → is_ne r ≡ false → rest i ≡ rest (i + 1)
+  next x y Less h k p q e n = cc
+  next x y Equal h k p q e n = step x y h k p q ∙ rw (← e) refl
+  next x y Greater h k p q e n = cc
 
-  pub next : (x y : ℕ) → i < length s → i < length t → x ≡ lower_case (get_or s i 0) → y ≡ lower_case (get_or t i 0) → y ≤ x → x ≤ y
-      → bytes_order (drop i (lowered s)) (drop i (lowered t)) ≡ bytes_order (drop (i + 1) (lowered s)) (drop (i + 1) (lowered t))
-  unfolding pick
-  next x y h k p q l m = step x y h k p q ∙ rw (le-ltb x y l, le-ltb y x m)
-
-  pub longer : i < length s → length t ≤ i → bytes_order (drop i (lowered s)) (drop i (lowered t)) ≡ Greater
+  close : (r : Ordering) → i ≡ min (length s) (length t) → MatchOrdering r (length s < length t) (length s ≡ length t) (length t < length s) → rest i ≡ r
   unfolding bytes_order
-  longer h k = rw (drop-cons (lowered s) i 0 (rw (lowered_length s) h), drop_of_length-le (lowered t) {i = i} (rw (lowered_length t) k))
+  close Less e h = rw (drop_of_length-le (lowered s) {i = i} (rw (lowered_length s) (omega arith)), drop-cons (lowered t) i 0 (rw (lowered_length t) (omega arith)))
+  close Equal e h = rw (drop_of_length-le (lowered s) {i = i} (rw (lowered_length s) (omega arith)), drop_of_length-le (lowered t) {i = i} (rw (lowered_length t) (omega arith)))
+  close Greater e h = rw (drop-cons (lowered s) i 0 (rw (lowered_length s) (omega arith)), drop_of_length-le (lowered t) {i = i} (rw (lowered_length t) (omega arith)))
 
-  pub shorter : length s ≤ i → i < length t → bytes_order (drop i (lowered s)) (drop i (lowered t)) ≡ Less
-  unfolding bytes_order
-  shorter h k = rw (drop_of_length-le (lowered s) {i = i} (rw (lowered_length s) h), drop-cons (lowered t) i 0 (rw (lowered_length t) k))
-
-  pub ended : length s ≤ i → length t ≤ i → bytes_order (drop i (lowered s)) (drop i (lowered t)) ≡ Same
-  unfolding bytes_order
-  ended h k = rw (drop_of_length-le (lowered s) {i = i} (rw (lowered_length s) h), drop_of_length-le (lowered t) {i = i} (rw (lowered_length t) k))
+  -- where one ends, the longer is greater
+  pub ended : (r : Ordering) → i ≡ min (length s) (length t) → r ≡ nat_cmp (length s) (length t) → rest i ≡ r
+  ended r e h = close r e (ranked (length s) (length t) r h)

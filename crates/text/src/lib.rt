@@ -5,139 +5,78 @@ ghost use Rattle.std.specs.Prelude.{◌≡◌};
 ghost use Rattle.text.specs.Bytes.{is_blank, is_digit, is_letter, starts_name, continues_name, lower_case};
 ghost use Rattle.text.specs.Strings.{same_bytes, same_name, string_order};
 
-// How a string stands to another.
-#[derive(Clone, Copy)]
-pub enum Order {
-    Less,
-    Same,
-    Greater,
-}
+use std::cmp::Ordering;
 
 // Space, tab, CR or LF.
+#[tactic(auto, unfolding(crate::specs::Bytes::is_blank))]
 pub fn is_blank(b: u8) -> bool
     ensures { result ≡ is_blank b }
 {
-    if b == b' ' {
-        return true;
-    }
-    if b == b'\t' {
-        return true;
-    }
-    if b == b'\r' {
-        return true;
-    }
-    b == b'\n'
+    matches!(b, b' ' | b'\t' | b'\r' | b'\n')
 }
 
+#[tactic(auto, unfolding(crate::specs::Bytes::is_digit))]
 pub fn is_digit(b: u8) -> bool
     ensures { result ≡ is_digit b }
 {
-    if b'0' <= b {
-        return b <= b'9';
-    }
-    false
+    b.is_ascii_digit()
 }
 
+#[tactic(auto, unfolding(crate::specs::Bytes::is_letter))]
 pub fn is_letter(b: u8) -> bool
     ensures { result ≡ is_letter b }
 {
-    if b'a' <= b {
-        return b <= b'z';
-    }
-    if b'A' <= b {
-        return b <= b'Z';
-    }
-    false
+    b.is_ascii_alphabetic()
 }
 
 // The first byte of a Name.
+#[tactic(auto, unfolding(crate::specs::Bytes::starts_name))]
 pub fn starts_name(b: u8) -> bool
     ensures { result ≡ starts_name b }
 {
-    if is_letter(b) {
-        return true;
-    }
-    b == b'_'
+    is_letter(b) || b == b'_'
 }
 
 // A further byte of a Name.
+#[tactic(auto, unfolding(crate::specs::Bytes::continues_name))]
 pub fn continues_name(b: u8) -> bool
     ensures { result ≡ continues_name b }
 {
-    if starts_name(b) {
-        return true;
-    }
-    is_digit(b)
+    starts_name(b) || is_digit(b)
 }
 
 // ASCII lower case.
+#[tactic(auto, unfolding(crate::specs::Bytes::lower_case))]
 pub fn lower(b: u8) -> u8
     ensures { result ≡ lower_case b }
 {
-    if b'A' <= b {
-        if b <= b'Z' {
-            return b + 32;
-        }
-        return b;
-    }
-    b
+    b.to_ascii_lowercase()
 }
 
 // Byte for byte.
+#[tactic(auto, unfolding(crate::specs::Strings::same_bytes))]
 pub fn same_bytes(a: &[u8], b: &[u8]) -> bool
     ensures { result ≡ same_bytes a.now b.now }
 {
-    if a.len() != b.len() {
-        return false;
-    }
-    let mut i = 0;
-    while i < a.len() {
-        if a[i] != b[i] {
-            return false;
-        }
-        i += 1;
-    }
-    true
+    a == b
 }
 
 // Without regard to ASCII case.
 pub fn same_name(a: &[u8], b: &[u8]) -> bool
     ensures { result ≡ same_name a.now b.now }
 {
-    if a.len() != b.len() {
-        return false;
-    }
-    let mut i = 0;
-    while i < a.len() {
-        if lower(a[i]) != lower(b[i]) {
-            return false;
-        }
-        i += 1;
-    }
-    true
+    a.eq_ignore_ascii_case(b)
 }
 
 // The order of the bytes after ASCII lower case.
-pub fn string_order(a: &[u8], b: &[u8]) -> Order
+pub fn string_order(a: &[u8], b: &[u8]) -> Ordering
     ensures { result ≡ string_order a.now b.now }
 {
-    let mut i = 0;
-    while i < a.len() {
-        if b.len() <= i {
-            return Order::Greater;
+    for (x, y) in a.iter().zip(b) {
+        let order = lower(*x).cmp(&lower(*y));
+        if order.is_ne() {
+            return order;
         }
-        let x = lower(a[i]);
-        let y = lower(b[i]);
-        if x < y {
-            return Order::Less;
-        }
-        if y < x {
-            return Order::Greater;
-        }
-        i += 1;
     }
-    if i < b.len() {
-        return Order::Less;
-    }
-    Order::Same
+    a.len().cmp(&b.len())
 }

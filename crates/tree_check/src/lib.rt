@@ -1,116 +1,137 @@
 // The check of one stored expression: whether some nodes are its tree, how it binds, its levels and how long it prints.
 #![tactic(auto)]
 
-ghost use Rattle.std.specs.Prelude.{◌≡◌, cond, ◌&&◌, ◌+◌, ◌-◌, ◌≤◌, ◌<◌, max, length, ltb};
+ghost use Rattle.std.specs.Prelude.{◌≡◌, cond, ◌&&◌, ◌+◌, ◌-◌, ◌≤◌, ◌<◌, length, ltb, Some};
 ghost use Rattle.syntax.specs.Bounds.{max_nodes};
-ghost use Rattle.ad.specs.Layout.{ad_words, ad_bytes_room};
+ghost use Rattle.ad.specs.Layout.{ad_bytes_room};
 ghost use Rattle.syntax.specs.Tree.{real, string};
 ghost use Rattle.syntax.specs.Print.{decimal, literal_text, binary_text};
 ghost use Rattle.syntax.specs.Inner.Lexeme.{is_name, is_string, is_real};
 ghost use Rattle.ad.specs.Stored.{bytes_at};
-ghost use Rattle.tree_check.specs.declared.Walk.TheVariants.{Tree};
-ghost use Rattle.tree_check.specs.Inner.Decode.{keyword_fits, boolean_fits, integer_fits, stands_at, leaf_at, Same, WalkOk, walk_if, plain_walk, unary_walk, binary_walk, conditional_walk, Room};
+ghost use Rattle.tree_check.specs.Inner.Decode.{keyword_fits, boolean_fits, integer_fits, stands_at, leaf_at, Same, WalkOk, tree, walk_if, plain_walk, unary_walk, binary_walk, conditional_walk, Room};
 
-use lexemes::both;
+use ad::{Kind, StoredAd};
 use node_shapes::Shape;
 use syntax::Binary;
 
-// What stands in a run of nodes.
-#[derive(Clone, Copy)]
-pub enum Walk {
-    // The place behind its bytes, how it binds, the highest level and the length of its print.
-    Tree(usize, usize, usize, usize),
-    Bad,
+// A tree that stands in a run of nodes.
+#[derive(Clone, Copy, PartialEq, Eq)]
+pub struct Tree {
+    // The place behind its bytes.
+    pub end: usize,
+    // How tight it binds.
+    pub binds: usize,
+    // Its highest level.
+    pub level: usize,
+    // How long it prints.
+    pub print: usize,
+}
+
+// A literal or reference, whose bytes end at a place and which prints so many.
+fn leaf(end: usize, print: usize) -> Tree
+    ensures { Some result ≡ tree end 8 0 print }
+{
+    Tree {
+        end: end,
+        binds: 8,
+        level: 0,
+        print: print,
+    }
 }
 
 // `undefined` or `error`, which print n bytes.
-fn keyword_walk(x: usize, y: usize, o: usize, n: usize) -> Walk
+fn keyword_walk(x: usize, y: usize, o: usize, n: usize) -> Option<Tree>
     ensures { result ≡ walk_if (keyword_fits x y) (plain_walk o n) }
 {
-    if both(x == 0, y == 0) {
-        return Walk::Tree(o, 8, 0, n);
+    if x == 0 && y == 0 {
+        Some(leaf(o, n))
+    } else {
+        None
     }
-    Walk::Bad
 }
 
-fn boolean_walk(x: usize, y: usize, o: usize) -> Walk
+fn boolean_walk(x: usize, y: usize, o: usize) -> Option<Tree>
     ensures { result ≡ walk_if (boolean_fits x y) (plain_walk o (5 - x)) }
 {
-    if both(x <= 1, y == 0) {
-        return Walk::Tree(o, 8, 0, 5 - x);
+    if x <= 1 && y == 0 {
+        Some(leaf(o, 5 - x))
+    } else {
+        None
     }
-    Walk::Bad
 }
 
-fn integer_walk(x: usize, y: usize, o: usize) -> Walk
+fn integer_walk(x: usize, y: usize, o: usize) -> Option<Tree>
     ensures { result ≡ walk_if (integer_fits x y) (plain_walk o (length (decimal x))) }
 {
-    if both(x <= 2147483647, y == 0) {
-        return Walk::Tree(o, 8, 0, lexemes::decimal_length(x as u64));
+    if x <= 2147483647 && y == 0 {
+        Some(leaf(o, lexemes::decimal_length(x as u64)))
+    } else {
+        None
     }
-    Walk::Bad
 }
 
-fn real_walk(x: usize, y: usize, o: usize) -> Walk
+fn real_walk(x: usize, y: usize, o: usize) -> Option<Tree>
     ensures { result ≡ walk_if (is_real x y) (plain_walk o (length (literal_text (real x y)))) }
 {
     if lexemes::is_real(x as u64, y as u64) {
-        return Walk::Tree(o, 8, 0, lexemes::real_length(x as u64, y as u64));
+        Some(leaf(o, lexemes::real_length(x as u64, y as u64)))
+    } else {
+        None
     }
-    Walk::Bad
 }
 
 // Whether y bytes stand from o on, which x names.
 pub fn stands(bytes: &[u8], o: usize, x: usize, y: usize) -> bool
     ensures { result ≡ stands_at bytes.now o x y }
 {
-    let part = ad::part(bytes, o, y);
-    both(x == o, part.len() == y)
+    x == o && parts::cut(bytes, o, y).len() == y
 }
 
-fn string_walk(bytes: &[u8], o: usize, x: usize, y: usize) -> Walk
+fn string_walk(bytes: &[u8], o: usize, x: usize, y: usize) -> Option<Tree>
     requires { (o ≤ ad_bytes_room) × (length bytes.now ≡ ad_bytes_room) }
-    ensures { result ≡ walk_if (stands_at bytes.now o x y && is_string (bytes_at bytes.now o y)) (Tree (o + y) 8 0 (length (literal_text (string (bytes_at bytes.now o y))))) }
+    ensures { result ≡ walk_if (stands_at bytes.now o x y && is_string (bytes_at bytes.now o y)) (tree (o + y) 8 0 (length (literal_text (string (bytes_at bytes.now o y))))) }
 {
-    let part = ad::part(bytes, o, y);
-    if both(stands(bytes, o, x, y), lexemes::is_string(part)) {
-        return Walk::Tree(o + y, 8, 0, lexemes::string_length(part));
+    let part = parts::cut(bytes, o, y);
+    if stands(bytes, o, x, y) && lexemes::is_string(part) {
+        Some(leaf(o + y, lexemes::string_length(part)))
+    } else {
+        None
     }
-    Walk::Bad
 }
 
 // A reference, whose name has n bytes before it.
-fn name_walk(bytes: &[u8], o: usize, x: usize, y: usize, n: usize) -> Walk
+fn name_walk(bytes: &[u8], o: usize, x: usize, y: usize, n: usize) -> Option<Tree>
     requires { (o ≤ ad_bytes_room) × (length bytes.now ≡ ad_bytes_room) × (n ≤ 6) }
-    ensures { result ≡ walk_if (stands_at bytes.now o x y && is_name (bytes_at bytes.now o y)) (Tree (o + y) 8 0 (n + y)) }
+    ensures { result ≡ walk_if (stands_at bytes.now o x y && is_name (bytes_at bytes.now o y)) (tree (o + y) 8 0 (n + y)) }
 {
-    let part = ad::part(bytes, o, y);
-    if both(stands(bytes, o, x, y), lexemes::is_name(part)) {
-        return Walk::Tree(o + y, 8, 0, n + y);
+    let part = parts::cut(bytes, o, y);
+    if stands(bytes, o, x, y) && lexemes::is_name(part) {
+        Some(leaf(o + y, n + y))
+    } else {
+        None
     }
-    Walk::Bad
 }
 
 // The literal or reference at node i, whose bytes, if it has some, begin at o.
-fn leaf_walk(words: &[u64], bytes: &[u8], i: usize, o: usize) -> Walk
-    requires { (i < max_nodes) × (ad_words ≤ length words.now) × (o ≤ ad_bytes_room) × (length bytes.now ≡ ad_bytes_room) }
-    ensures { Same o (leaf_at words.now bytes.now i o) result }
+fn leaf_walk(ad: StoredAd<'_>, i: usize, o: usize) -> Option<Tree>
+    requires { (i < max_nodes) × (o ≤ ad_bytes_room) × (length ad.bytes.now ≡ ad_bytes_room) }
+    ensures { Same o (leaf_at ad.entry.words.now ad.entry.bytes.now i o) result }
 {
-    let x = ad::operand(words, i, 0);
-    let y = ad::operand(words, i, 1);
-    if ad::operand(words, i, 2) != 0 {
-        return Walk::Bad;
+    let x = ad.operand(i, 0);
+    let y = ad.operand(i, 1);
+    if ad.operand(i, 2) != 0 {
+        return None;
     }
-    match ad::kind(words, i) {
-        1 => keyword_walk(x, y, o, 9),
-        2 => keyword_walk(x, y, o, 5),
-        3 => boolean_walk(x, y, o),
-        4 => integer_walk(x, y, o),
-        5 => real_walk(x, y, o),
-        6 => string_walk(bytes, o, x, y),
-        7 => name_walk(bytes, o, x, y, 0),
-        8 => name_walk(bytes, o, x, y, 6),
-        _ => Walk::Bad,
+    match ad.kind(i)? {
+        Kind::Undefined => keyword_walk(x, y, o, 9),
+        Kind::Error => keyword_walk(x, y, o, 5),
+        Kind::Boolean => boolean_walk(x, y, o),
+        Kind::Integer => integer_walk(x, y, o),
+        Kind::Real => real_walk(x, y, o),
+        Kind::String => string_walk(ad.bytes, o, x, y),
+        Kind::Own => name_walk(ad.bytes, o, x, y, 0),
+        Kind::Other => name_walk(ad.bytes, o, x, y, 6),
+        _ => None,
     }
 }
 
@@ -122,111 +143,87 @@ fn around(k: usize, b: usize, n: usize, more: usize) -> usize
     if b < k { n + more } else { n }
 }
 
-fn larger(a: usize, b: usize) -> usize
-    ensures { result ≡ max a b }
+fn unary_walk(a: Tree) -> Tree
+    requires { (a.level < 100000) × (a.print < 100000) }
+    ensures { Some result ≡ unary_walk a.end a.binds a.level a.print }
 {
-    if a < b { b } else { a }
-}
-
-fn unary_walk(p: usize, b: usize, d: usize, n: usize) -> Walk
-    requires { (d < 100000) × (n < 100000) }
-    ensures { result ≡ unary_walk p b d n }
-{
-    let level = around(7, b, d, 1) + 1;
-    let len = around(7, b, n, 2) + 1;
-    Walk::Tree(p, 7, level, len)
+    Tree {
+        end: a.end,
+        binds: 7,
+        level: around(7, a.binds, a.level, 1) + 1,
+        print: around(7, a.binds, a.print, 2) + 1,
+    }
 }
 
 // How long an operator of two operands prints.
+#[tactic(auto, unfolding(syntax::specs::Print::binary_text, text::specs::Bytes::bytes))]
 fn operator_length(j: Binary) -> usize
     ensures { (result ≡ length (binary_text j)) × (result ≤ 4) }
 {
     match j {
-        Binary::Or => 2,
-        Binary::And => 2,
-        Binary::Equal => 2,
-        Binary::NotEqual => 2,
-        Binary::Is => 2,
         Binary::Isnt => 4,
-        Binary::Less => 1,
-        Binary::LessOrEqual => 2,
-        Binary::Greater => 1,
-        Binary::GreaterOrEqual => 2,
-        Binary::Add => 1,
-        Binary::Subtract => 1,
-        Binary::Multiply => 1,
-        Binary::Divide => 1,
-        Binary::Remainder => 1,
+        Binary::Less
+        | Binary::Greater
+        | Binary::Add
+        | Binary::Subtract
+        | Binary::Multiply
+        | Binary::Divide
+        | Binary::Remainder => 1,
+        _ => 2,
     }
 }
 
-fn binary_walk(
-    j: Binary,
-    b: usize,
-    d: usize,
-    n: usize,
-    q: usize,
-    b2: usize,
-    d2: usize,
-    n2: usize,
-) -> Walk
-    requires { (d < 100000) × (n < 100000) × (d2 < 100000) × (n2 < 100000) }
-    ensures { result ≡ binary_walk j b d n q b2 d2 n2 }
+fn binary_walk(j: Binary, a: Tree, b: Tree) -> Tree
+    requires { (a.level < 100000) × (a.print < 100000) × (b.level < 100000) × (b.print < 100000) }
+    ensures { Some result ≡ binary_walk j a.binds a.level a.print b.end b.binds b.level b.print }
 {
-    let k = lookahead::binds(j);
-    let level = larger(around(k, b, d, 1), around(k + 1, b2, d2, 1));
-    let len = operator_length(j) + around(k + 1, b2, n2, 2) + 2;
-    Walk::Tree(q, k, level, around(k, b, n, 2) + len)
+    let k = j.binds();
+    let first = around(k, a.binds, a.level, 1);
+    let second = around(k + 1, b.binds, b.level, 1);
+    let len = operator_length(j) + around(k + 1, b.binds, b.print, 2) + 2;
+    Tree {
+        end: b.end,
+        binds: k,
+        level: first.max(second),
+        print: around(k, a.binds, a.print, 2) + len,
+    }
 }
 
-fn conditional_walk(
-    b: usize,
-    d: usize,
-    n: usize,
-    d2: usize,
-    n2: usize,
-    q: usize,
-    d3: usize,
-    n3: usize,
-) -> Walk
-    requires { (d < 100000) × (n < 100000) × (d2 < 100000) × (n2 < 100000) × (d3 < 100000) × (n3 < 100000) }
-    ensures { result ≡ conditional_walk b d n d2 n2 q d3 n3 }
+fn conditional_walk(a: Tree, b: Tree, c: Tree) -> Tree
+    requires { (a.level < 100000) × (a.print < 100000) × (b.level < 100000) × (b.print < 100000) × (c.level < 100000) × (c.print < 100000) }
+    ensures { Some result ≡ conditional_walk a.binds a.level a.print b.level b.print c.end c.level c.print }
 {
-    let level = larger(around(1, b, d, 1), larger(d2, d3) + 1);
-    let len = around(1, b, n, 2) + (n2 + n3 + 6);
-    Walk::Tree(q, 0, level, len)
+    let asked = around(1, a.binds, a.level, 1);
+    let arms = b.level.max(c.level) + 1;
+    Tree {
+        end: c.end,
+        binds: 0,
+        level: asked.max(arms),
+        print: around(1, a.binds, a.print, 2) + (b.print + c.print + 6),
+    }
 }
 
-// The tree of the nodes s to i, whose bytes begin at o.
-pub fn visit(words: &[u64], bytes: &[u8], s: usize, i: usize, o: usize) -> Walk
-    requires { Room words.now bytes.now s i o }
-    ensures { WalkOk words.now bytes.now s i o result }
+// The tree of the nodes s to i, whose bytes begin at o; none where there is no such tree.
+pub fn visit(ad: StoredAd<'_>, s: usize, i: usize, o: usize) -> Option<Tree>
+    requires { Room ad.words.now ad.bytes.now s i o }
+    ensures { WalkOk ad.entry.words.now ad.entry.bytes.now s i o result }
 {
-    match node_shapes::shape_at(words, s, i) {
-        Shape::Nothing => Walk::Bad,
-        Shape::Leaf => leaf_walk(words, bytes, i, o),
-        Shape::One(x) => match visit(words, bytes, s, x, o) {
-            Walk::Bad => Walk::Bad,
-            Walk::Tree(p, b, d, n) => unary_walk(p, b, d, n),
-        },
-        Shape::Two(x, y) => match visit(words, bytes, s, x, o) {
-            Walk::Bad => Walk::Bad,
-            Walk::Tree(p, b, d, n) => match visit(words, bytes, x + 1, y, p) {
-                Walk::Bad => Walk::Bad,
-                Walk::Tree(q, b2, d2, n2) => {
-                    binary_walk(ad::binary_of(ad::kind(words, i)), b, d, n, q, b2, d2, n2)
-                }
-            },
-        },
-        Shape::Three(x, y, z) => match visit(words, bytes, s, x, o) {
-            Walk::Bad => Walk::Bad,
-            Walk::Tree(p, b, d, n) => match visit(words, bytes, x + 1, y, p) {
-                Walk::Bad => Walk::Bad,
-                Walk::Tree(q, _, d2, n2) => match visit(words, bytes, y + 1, z, q) {
-                    Walk::Bad => Walk::Bad,
-                    Walk::Tree(t, _, d3, n3) => conditional_walk(b, d, n, d2, n2, t, d3, n3),
-                },
-            },
-        },
+    match node_shapes::shape_at(ad, s, i)? {
+        Shape::Leaf => leaf_walk(ad, i, o),
+        Shape::One(x) => {
+            let a = visit(ad, s, x, o)?;
+            Some(unary_walk(a))
+        }
+        Shape::Two(x, y) => {
+            let a = visit(ad, s, x, o)?;
+            let b = visit(ad, x + 1, y, a.end)?;
+            Some(binary_walk(ad.binary(i), a, b))
+        }
+        Shape::Three(x, y, z) => {
+            let a = visit(ad, s, x, o)?;
+            let b = visit(ad, x + 1, y, a.end)?;
+            let c = visit(ad, y + 1, z, b.end)?;
+            Some(conditional_walk(a, b, c))
+        }
     }
 }

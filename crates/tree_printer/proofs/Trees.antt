@@ -2,18 +2,24 @@
 use Prim.Native.Nat.{ℕ, ◌+◌, ◌≤◌, ◌<◌}
 use native.Mathlib.Omega.{arith}
 use mathlib.Core.Path.{◌≡◌, refl, sym, ◌∙◌, ap, subst}
-use mathlib.Core.Bool.{Bool, true, false}
 use mathlib.Core.List.{List, [], ◌∷◌, ◌++◌, append_assoc}
 use lib.ListN.{length, set, length-append}
-use lib.Dec.{eqb}
-use borrow.Author.Tests.{lt-ltb, le-ltb, eqb-true, eqb-false, ne_eqb}
+use borrow.Author.Tests.{lt-ltb, le-ltb, ne_eqb}
 use Rattle.text.specs.Bytes.{bytes}
 use Rattle.syntax.specs.Tree.{Expr, literal, reference, unary, binary, conditional, size}
 use Rattle.syntax.specs.Grammar.{binds_of}
 use Rattle.syntax.specs.Print.{unary_text, binary_text, binds, printed}
 use Rattle.ad.specs.Layout.{expr_bytes}
-use Rattle.ad.specs.Stored.{kind_at, operand_at, unary_of, binary_of}
-use Rattle.ad.specs.Laws.Content.{unary_range, binary_found, binary_high}
+use Rattle.std.proofs.Common.{Option, IsSome}
+use Rattle.syntax.specs.declared.Binary.{Binary}
+use Rattle.syntax.specs.declared.Unary.{Unary}
+use Rattle.ad.specs.declared.kind.Kind.{Kind}
+use Rattle.ad.specs.declared.kind.Kind.TheVariants as K
+use Rattle.ad.specs.Layout.{code_of}
+use Rattle.ad.specs.Stored.{kind_of, kind_at, operand_at, unary_of, binary_of}
+use Rattle.ad.specs.Laws.Content.{binary_found, binary_high}
+use Rattle.ad.specs.Laws.Coding.{some_kind, unary_range, unary_coded, binary_range, binary_coded}
+use Rattle.leaf_printer.proofs.Leaves.{leaf_kind}
 use Rattle.writer.specs.Inner.Put.{Puts, Near}
 use Rattle.writer.proofs.Laws.{puts_byte, puts_join, puts_as}
 use Rattle.tree_check.specs.Laws.Leaves.{Run}
@@ -77,6 +83,44 @@ binds_conditional k h = rw h refl
 pub binds_binary : (k : ℕ) → 9 ≤ k → 12 ≤ k → (k ≡ 12 → ⊥) → binds_of (binary_of k) ≡ binds_kind k
 unfolding binds_kind
 binds_binary k h g n = rw (le-ltb k 9 h, le-ltb k 12 g, ne_eqb k 12 n) refl
+
+-- ---- the kind of a tree's last node
+
+pub run_kind : (w b : List ℕ) (s i o : ℕ) (e : Expr) → Run w b s i o e → (r : Option Kind) → r ≡ kind_of (kind_at w i) → IsSome r
+unfolding size
+run_kind w b s i o (literal l) r = leaf_kind w b i o (literal l) (run_leaf (literal l) r (leaf_parts (literal l) r refl).1)
+run_kind w b s i o (reference m l) r = leaf_kind w b i o (reference m l) (run_leaf (reference m l) r (leaf_parts (reference m l) r refl).1)
+run_kind w b s i o (unary j p) r = some_kind (kind_at w i) (K.Unary j) (unary_parts j p r).0
+run_kind w b s i o (binary j p q) r = some_kind (kind_at w i) (K.Binary j) (binary_parts j p q r).0
+run_kind w b s i o (conditional p q c) r = some_kind (kind_at w i) K.Conditional (conditional_parts p q c r).0
+
+pub kind_low : (x : Kind) {k : ℕ} → k ≡ code_of x → ((u : Unary) → x ≡ K.Unary u → ⊥) → (x ≡ K.Conditional → ⊥) → ((j : Binary) → x ≡ K.Binary j → ⊥) → k < 9
+kind_low K.Undefined e n m l = omega arith
+kind_low K.Error e n m l = omega arith
+kind_low K.Boolean e n m l = omega arith
+kind_low K.Integer e n m l = omega arith
+kind_low K.Real e n m l = omega arith
+kind_low K.String e n m l = omega arith
+kind_low K.Own e n m l = omega arith
+kind_low K.Other e n m l = omega arith
+kind_low (K.Unary u) e n m l = absurd (n u refl)
+kind_low K.Conditional e n m l = absurd (m refl)
+kind_low (K.Binary j) e n m l = absurd (l j refl)
+
+pub unary_from : (u : Unary) {k : ℕ} → k ≡ code_of (K.Unary u) → 9 ≤ k
+unary_from u e = omega (arith, unary_range u)
+
+pub unary_below : (u : Unary) {k : ℕ} → k ≡ code_of (K.Unary u) → k < 12
+unary_below u e = omega (arith, unary_range u)
+
+pub unary_is : (u : Unary) {k : ℕ} → k ≡ code_of (K.Unary u) → u ≡ unary_of k
+unary_is u e = sym (ap unary_of e ∙ unary_coded u)
+
+pub binary_above : (j : Binary) {k : ℕ} → k ≡ code_of (K.Binary j) → 12 < k
+binary_above j e = omega (arith, binary_range j)
+
+pub binary_is : (j : Binary) {k : ℕ} → k ≡ code_of (K.Binary j) → j ≡ binary_of k
+binary_is j e = sym (ap binary_of e ∙ binary_coded j)
 
 -- ---- parentheses
 
@@ -272,10 +316,3 @@ module _ (w b : List ℕ) (i at : ℕ) (o : List ℕ) where
     three_written o₁ o₂ o₃ o₄ o₅ m n p q r first question second colon third e s k x =
         let z = run_three e x h in
         puts_as (ap printed (sym z.3)) (puts_join (first z.0 s k z.7) (puts_join question (puts_join (second z.1 (operand_at w i 0 + 1) (k + length (expr_bytes z.0)) z.8) (puts_join colon (third z.2 (operand_at w i 1 + 1) (k + length (expr_bytes z.0) + length (expr_bytes z.1)) z.9)))))
-
-pub above : (w : List ℕ) (i : ℕ) → 12 ≤ kind_at w i → (kind_at w i ≡ 12 → ⊥) → 12 < kind_at w i
-above w i h n = go (eqb (kind_at w i) 12) refl
-  where
-    go : (t : Bool) → eqb (kind_at w i) 12 ≡ t → 12 < kind_at w i
-    go true e = absurd (n (eqb-true (kind_at w i) 12 e))
-    go false e = let m = eqb-false (kind_at w i) 12 e in omega arith

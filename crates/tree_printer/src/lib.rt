@@ -1,82 +1,65 @@
 // Printing: one stored expression.
 #![tactic(auto)]
 
-ghost use Rattle.std.specs.Prelude.{◌≡◌, ◌+◌, ◌≤◌, ◌<◌, length};
-ghost use Rattle.syntax.specs.Bounds.{max_nodes};
-ghost use Rattle.ad.specs.Layout.{ad_words};
+ghost use Rattle.std.specs.Prelude.{◌≡◌, ◌+◌};
 ghost use Rattle.syntax.specs.Print.{printed};
-ghost use Rattle.ad.specs.Stored.{kind_at};
+ghost use Rattle.ad.specs.Layout.{code_of};
 ghost use Rattle.tree_printer.specs.Inner.Post.{binds_kind, wrapped, Fits, Written};
 
+use ad::{Kind, StoredAd};
 use writer::{put, put_byte};
 
-// How tight the tree binds whose last node is i.
-fn binding(words: &[u64], i: usize) -> usize
-    requires { (i < max_nodes) × (ad_words ≤ length words.now) }
-    ensures { result ≡ binds_kind (kind_at words.now i) }
+// How tight a node of a kind binds.
+fn binding(kind: Kind) -> usize
+    ensures { result ≡ binds_kind (code_of kind) }
 {
-    let k = ad::kind(words, i);
-    if k < 9 {
-        return 8;
+    match kind {
+        Kind::Unary(_) => 7,
+        Kind::Conditional => 0,
+        Kind::Binary(j) => j.binds(),
+        _ => 8,
     }
-    if k < 12 {
-        return 7;
-    }
-    if k == 12 {
-        return 0;
-    }
-    lookahead::binds(ad::binary_of(k))
 }
 
 // Writes the tree whose last node is i.
 #[cycle(tree)]
-pub fn put_tree(words: &[u64], bytes: &[u8], i: usize, out: &mut [u8], at: usize) -> usize
-    requires { Fits printed words.now bytes.now i at }
-    ensures { Written printed words.now bytes.now i at out.old out.new result }
+pub fn put_tree(ad: StoredAd<'_>, i: usize, out: &mut [u8], at: usize) -> usize
+    requires { Fits printed ad.words.now ad.bytes.now i at }
+    ensures { Written printed ad.entry.words.now ad.entry.bytes.now i at out.old out.new result }
 {
-    let k = ad::kind(words, i);
-    if k < 9 {
-        return leaf_printer::put_leaf(words, bytes, i, out, at);
+    match ad.kind(i).unwrap() {
+        Kind::Unary(u) => {
+            let m = writer::put_unary(u, out, at);
+            put_operand(ad, 7, ad.operand(i, 0), out, m)
+        }
+        Kind::Conditional => {
+            let m = put_operand(ad, 1, ad.operand(i, 0), out, at);
+            let n = put(b" ? ", out, m);
+            let p = put_tree(ad, ad.operand(i, 1), out, n);
+            let q = put(b" : ", out, p);
+            put_tree(ad, ad.operand(i, 2), out, q)
+        }
+        Kind::Binary(j) => {
+            let need = j.binds();
+            let m = put_operand(ad, need, ad.operand(i, 0), out, at);
+            let n = writer::put_binary(j, out, m);
+            put_operand(ad, need + 1, ad.operand(i, 1), out, n)
+        }
+        _ => leaf_printer::put_leaf(ad, i, out, at),
     }
-    let x = ad::operand(words, i, 0);
-    if k < 12 {
-        let m = writer::put_unary(ad::unary_of(k), out, at);
-        return put_operand(words, bytes, 7, x, out, m);
-    }
-    let y = ad::operand(words, i, 1);
-    if k == 12 {
-        let z = ad::operand(words, i, 2);
-        let m = put_operand(words, bytes, 1, x, out, at);
-        let n = put(b" ? ", out, m);
-        let p = put_tree(words, bytes, y, out, n);
-        let q = put(b" : ", out, p);
-        return put_tree(words, bytes, z, out, q);
-    }
-    let j = ad::binary_of(k);
-    let need = lookahead::binds(j);
-    let m = put_operand(words, bytes, need, x, out, at);
-    let n = writer::put_binary(j, out, m);
-    put_operand(words, bytes, need + 1, y, out, n)
 }
 
 // The same, in parentheses where it binds looser than need.
 #[cycle(tree)]
-fn put_operand(
-    words: &[u64],
-    bytes: &[u8],
-    need: usize,
-    i: usize,
-    out: &mut [u8],
-    at: usize,
-) -> usize
-    requires { Fits (wrapped need) words.now bytes.now i at }
-    ensures { Written (wrapped need) words.now bytes.now i at out.old out.new result }
+fn put_operand(ad: StoredAd<'_>, need: usize, i: usize, out: &mut [u8], at: usize) -> usize
+    requires { Fits (wrapped need) ad.words.now ad.bytes.now i at }
+    ensures { Written (wrapped need) ad.entry.words.now ad.entry.bytes.now i at out.old out.new result }
 {
-    if need <= binding(words, i) {
-        return put_tree(words, bytes, i, out, at);
+    if need <= binding(ad.kind(i).unwrap()) {
+        return put_tree(ad, i, out, at);
     }
     put_byte(out, at, b'(');
-    let m = put_tree(words, bytes, i, out, at + 1);
+    let m = put_tree(ad, i, out, at + 1);
     put_byte(out, m, b')');
     m + 1
 }

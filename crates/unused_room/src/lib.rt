@@ -1,41 +1,19 @@
 // The check that an ad's memory is zero behind its content.
 #![tactic(auto)]
 
-ghost use Rattle.std.specs.Prelude.{◌≡◌, ◌&&◌, ◌+◌, ◌*◌, ◌≤◌, ◌<◌, length};
+ghost use Rattle.std.specs.Prelude.{◌≡◌, ◌+◌, ◌*◌, ◌≤◌, ◌<◌, length};
 ghost use Rattle.syntax.specs.Bounds.{max_definitions, max_nodes};
 ghost use Rattle.ad.specs.Layout.{ad_words, ad_bytes_room};
 ghost use Rattle.syntax.specs.Inner.Lexeme.{every};
 ghost use Rattle.unused_room.specs.Inner.Zeros.{is_zero, zero_behind};
 
-use lexemes::both;
-
-// Whether all was zero, and x is. The loops below look at everything and stop nowhere, which a machine does many numbers at a time.
-fn still_zero(clear: bool, x: u64) -> bool
-    ensures { result ≡ (clear && is_zero x) }
-{
-    if x != 0 {
-        return false;
-    }
-    clear
-}
-
+// Whether all are zero. The loops look at everything and stop nowhere, which a machine does many numbers at a time.
 fn zero_words(words: &[u64]) -> bool
     ensures { result ≡ every is_zero words.now }
 {
     let mut clear = true;
-    let mut i = 0;
-    while i < words.len() {
-        clear = still_zero(clear, words[i]);
-        i += 1;
-    }
-    clear
-}
-
-fn still_zero_byte(clear: bool, x: u8) -> bool
-    ensures { result ≡ (clear && is_zero x) }
-{
-    if x != 0 {
-        return false;
+    for x in words {
+        clear &= *x == 0;
     }
     clear
 }
@@ -44,10 +22,8 @@ fn zero_bytes(bytes: &[u8]) -> bool
     ensures { result ≡ every is_zero bytes.now }
 {
     let mut clear = true;
-    let mut i = 0;
-    while i < bytes.len() {
-        clear = still_zero_byte(clear, bytes[i]);
-        i += 1;
+    for x in bytes {
+        clear &= *x == 0;
     }
     clear
 }
@@ -61,5 +37,5 @@ pub fn zero_behind(words: &[u64], bytes: &[u8], d: usize, n: usize, k: usize) ->
     let entry = ad::NODE_WORDS + 3 * d;
     let nodes = zero_words(&words[node..ad::NODE_WORDS]);
     let entries = zero_words(&words[entry..]);
-    both(nodes, both(entries, zero_bytes(&bytes[k..])))
+    nodes && entries && zero_bytes(&bytes[k..])
 }

@@ -1,8 +1,10 @@
 -- What each way through the check gives. Assumes nothing.
+use Rattle.std.proofs.Common.{Some, None}
 use Prim.Native.Nat.{ℕ, zero, suc, ◌+◌, ◌-◌, ◌≤◌, ◌<◌}
 use native.Mathlib.Omega.{arith}
 use mathlib.Core.Path.{◌≡◌, refl, sym, ◌∙◌, ap, subst}
-use mathlib.Core.Bool.{true, false, cond, ◌&&◌}
+use mathlib.Core.Bool.{Bool, true, false, cond, ◌&&◌}
+use mathlib.Core.Logic.{◌⊎◌, inl, inr}
 use mathlib.Core.List.{List, [], ◌∷◌}
 use lib.ListN.{length, length-take}
 use lib.Dec.{eqb}
@@ -12,14 +14,12 @@ use Rattle.syntax.specs.Print.{definitions_text, printed_ad}
 use Rattle.ad.specs.Layout.{ad_bytes}
 use Rattle.ad.specs.Stored.{offset_at, length_at, bytes_at}
 use Rattle.ad.specs.Inner.Names.{defined_in}
-use Rattle.well_formed.specs.Inner.Decode.{rows_length, RowsOk, new_from}
+use Rattle.well_formed.specs.Inner.Decode.{rows, rows_length, RowsOk, new_from}
 use Rattle.unused_room.specs.Inner.Zeros.{zero_behind}
 use Rattle.well_formed.specs.WellFormed.{AnswersRoom, Answers}
 use Rattle.well_formed.specs.Laws.Prints.{length_ad_print}
 use Rattle.well_formed.specs.Laws.Definitions.{Table, AllAd, ad_sound, ad_few}
 use Rattle.well_formed.specs.Laws.Whole.{holds_found, found_holds, holds_long}
-use Rattle.well_formed.specs.declared.Rows.TheVariants.{Ads, Wrong}
-use Rattle.well_formed.specs.declared.Checked.TheVariants.{WellFormed, Malformed}
 use Rattle.tree_check.proofs.Ways.{inside}
 
 -- ---- distinct names
@@ -42,11 +42,21 @@ new_all w b d = let i : d - 0 ≡ d = omega arith in ap (new_from w b 0) i
 
 -- ---- the check
 
+pub not_left : (a b : Bool) → a ≡ false → (a && b) ≡ false
+not_left a b e = rw e refl
+
+pub not_right : (a b : Bool) → b ≡ false → (a && b) ≡ false
+not_right a b e = rw e (go a)
+  where
+    go : (a : Bool) → (a && false) ≡ false
+    go true = refl
+    go false = refl
+
 module _ (w b : List ℕ) (hw : length w ≡ 4864) (hb : length b ≡ 16384) where
-  pub room_bad : RowsOk w b 0 0 0 Wrong → AnswersRoom w b Malformed
+  pub room_bad : RowsOk w b 0 0 0 None → AnswersRoom w b None
   room_bad h a x = let z : ◌≡◌ {A = ℕ} 0 1 = cc ((holds_found w b hw hb a x).0, h) in omega arith
 
-  module _ (d n k t : ℕ) (h : RowsOk w b 0 0 0 (Ads d n k t)) where
+  module _ (d n k t : ℕ) (h : RowsOk w b 0 0 0 (rows d n k t)) where
     pub rows_inside : (d ≤ 256) × (n ≤ 1024) × (k ≤ 16384)
     rows_inside =
         let y : Table w b 0 0 0 h.0 = subst (AllAd (Table w b 0 0 0)) h.1 (ad_sound 256 w b 0 0 0 (omega arith) (omega arith) (omega arith)) in
@@ -61,7 +71,7 @@ module _ (w b : List ℕ) (hw : length w ≡ 4864) (hb : length b ≡ 16384) whe
         let r : k ≡ length (ad_bytes h.0) = omega (arith, h.4) in
         λ i. new_from w b 0 (p i) && zero_behind w b (p i) (q i) (r i)
 
-    pub room_not : (new_from w b 0 d && zero_behind w b d n k) ≡ false → AnswersRoom w b Malformed
+    pub room_not : (new_from w b 0 d && zero_behind w b d n k) ≡ false → AnswersRoom w b None
     room_not e c x =
         let f = holds_found w b hw hb c x in
         let s : c ≡ h.0 = cc (f.0, h.1) in
@@ -69,7 +79,7 @@ module _ (w b : List ℕ) (hw : length w ≡ 4864) (hb : length b ≡ 16384) whe
         let z : ◌≡◌ {A = ℕ} 0 1 = cc (sym e ∙ (counts ∙ g)) in
         omega arith
 
-    pub room_good : (new_from w b 0 d && zero_behind w b d n k) ≡ true → (p : ℕ) → p ≡ cond (eqb d 0) 2 t → AnswersRoom w b (WellFormed d n p)
+    pub room_good : (new_from w b 0 d && zero_behind w b d n k) ≡ true → (p : ℕ) → p ≡ cond (eqb d 0) 2 t → AnswersRoom w b (Some (record { counts = record { definitions = d; nodes = n }; print_length = p }))
     unfolding printed_ad definitions_text
     room_good e p q = (h.0, found_holds w b hw hb h.0 h.1 (sym counts ∙ e), omega (arith, h.2), omega (arith, h.3), q ∙ long h.0 (omega (arith, h.2)) h.5)
       where
@@ -79,8 +89,6 @@ module _ (w b : List ℕ) (hw : length w ≡ 4864) (hb : length b ≡ 16384) whe
 
 -- ---- memory that is too small holds no ad
 
-pub small_words : (w b : List ℕ) → length w < 4864 → Answers w b Malformed
-small_words w b h a x = omega (arith, (holds_long a x).0, length-take 4864 w)
-
-pub small_bytes : (w b : List ℕ) → length b < 16384 → Answers w b Malformed
-small_bytes w b h a x = omega (arith, (holds_long a x).1, length-take 16384 b)
+pub small : (w b : List ℕ) → (length w < 4864) ⊎ (4864 ≤ length w × length b < 16384) → Answers w b None
+small w b (inl h) a x = omega (arith, (holds_long a x).0, length-take 4864 w)
+small w b (inr h) a x = omega (arith, (holds_long a x).1, length-take 16384 b)

@@ -1,97 +1,104 @@
 // The check of stored ads: whether any numbers are a stored ad (refusal 10).
 #![tactic(auto)]
 
-ghost use Rattle.std.specs.Prelude.{◌≡◌, cond, ◌+◌, ◌≤◌, ◌<◌, length, eqb};
+ghost use Rattle.std.specs.Prelude.{◌≡◌, cond, ◌+◌, ◌≤◌, ◌<◌, length, eqb, Some};
 ghost use Rattle.syntax.specs.Bounds.{max_definitions};
 ghost use Rattle.ad.specs.Layout.{ad_words, ad_bytes_room};
-ghost use Rattle.tree_check.specs.declared.Walk.TheVariants.{Tree};
 ghost use Rattle.well_formed.specs.WellFormed.{AnswersRoom, Answers};
 ghost use Rattle.well_formed.specs.Inner.Decode.{entry_fits, new_from, row_before, RowsSmall, RowsRoom, RowsOk};
 
-use lexemes::both;
-use tree_check::Walk;
+use ad::{Counts, StoredAd};
 
-// What stands in the definitions.
-#[derive(Clone, Copy)]
-pub enum Rows {
-    // How many definitions and nodes there are, the place behind their bytes, and how long they print with two bytes behind each.
-    Ads(usize, usize, usize, usize),
-    Wrong,
+// What stands in the definitions from one on.
+#[derive(Clone, Copy, PartialEq, Eq)]
+pub struct Rows {
+    // How many definitions and nodes there are then.
+    pub counts: Counts,
+    // The place behind their bytes.
+    pub end: usize,
+    // How long they print with two bytes behind each.
+    pub print: usize,
 }
 
-// What a stored ad is.
-#[derive(Clone, Copy)]
-pub enum Checked {
-    // How many definitions and nodes it has, and how long it prints.
-    WellFormed(usize, usize, usize),
-    Malformed,
+// What a stored ad has: how many definitions and nodes, and how long it prints.
+#[derive(Clone, Copy, PartialEq, Eq)]
+pub struct Checked {
+    pub counts: Counts,
+    pub print_length: usize,
 }
 
 // Whether definition j's name begins at o, and its nodes at n.
-fn entry_fits(words: &[u64], bytes: &[u8], j: usize, n: usize, o: usize) -> bool
-    requires { (j < max_definitions) × (ad_words ≤ length words.now) }
-    ensures { result ≡ entry_fits words.now bytes.now j n o }
+fn entry_fits(ad: StoredAd<'_>, j: usize, n: usize, o: usize) -> bool
+    requires { j < max_definitions }
+    ensures { result ≡ entry_fits ad.entry.words.now ad.entry.bytes.now j n o }
 {
-    let len = ad::name_length(words, j);
-    let root = ad::root(words, j);
-    let part = ad::part(bytes, o, len);
-    let named = both(
-        tree_check::stands(bytes, o, ad::offset(words, j), len),
-        lexemes::is_name(part),
-    );
-    both(named, both(n <= root, root < syntax::NODES))
+    let len = ad.name_length(j);
+    let root = ad.root(j);
+    tree_check::stands(ad.bytes, o, ad.offset(j), len)
+        && lexemes::is_name(ad.part(o, len))
+        && n <= root
+        && root < syntax::NODES
+}
+
+// None from here on, where d definitions and n nodes were before, and o bytes.
+fn no_rows(d: usize, n: usize, o: usize) -> Rows
+    ensures { result ≡ record { counts = record { definitions = d; nodes = n }; end = o; print = 0 } }
+{
+    let counts = Counts {
+        definitions: d,
+        nodes: n,
+    };
+    Rows {
+        counts: counts,
+        end: o,
+        print: 0,
+    }
 }
 
 // A definition whose name has this many bytes and whose expression prints this many, before others.
 fn with_row(len: usize, print: usize, rest: Rows) -> Rows
-    requires { (len ≤ 64) × (print < 100000) × RowsSmall rest }
-    ensures { result ≡ row_before len print rest }
+    requires { (len ≤ 64) × (print < 100000) × RowsSmall (Some rest) }
+    ensures { Some result ≡ row_before len print (Some rest) }
 {
-    match rest {
-        Rows::Wrong => Rows::Wrong,
-        Rows::Ads(d, n, k, t) => Rows::Ads(d, n, k, len + print + 5 + t),
+    Rows {
+        print: len + print + 5 + rest.print,
+        ..rest
     }
 }
 
-// The definitions from j on, whose nodes begin at n and whose bytes begin at o.
-fn rows_from(words: &[u64], bytes: &[u8], j: usize, n: usize, o: usize) -> Rows
-    requires { RowsRoom words.now bytes.now j n o }
-    ensures { RowsOk words.now bytes.now j n o result }
+// The definitions from j on, whose nodes begin at n and whose bytes begin at o; none where they are not well formed.
+fn rows_from(ad: StoredAd<'_>, j: usize, n: usize, o: usize) -> Option<Rows>
+    requires { RowsRoom ad.words.now ad.bytes.now j n o }
+    ensures { RowsOk ad.entry.words.now ad.entry.bytes.now j n o result }
 {
     if syntax::DEFINITIONS <= j {
-        return Rows::Ads(j, n, o, 0);
+        return Some(no_rows(j, n, o));
     }
-    let len = ad::name_length(words, j);
+    let len = ad.name_length(j);
     if len == 0 {
-        return Rows::Ads(j, n, o, 0);
+        return Some(no_rows(j, n, o));
     }
-    if entry_fits(words, bytes, j, n, o) {
-        let root = ad::root(words, j);
-        return match tree_check::visit(words, bytes, n, root, o + len) {
-            Walk::Bad => Rows::Wrong,
-            Walk::Tree(q, _, d, print) => {
-                if 64 < d {
-                    return Rows::Wrong;
-                }
-                with_row(len, print, rows_from(words, bytes, j + 1, root + 1, q))
-            }
-        };
+    if !entry_fits(ad, j, n, o) {
+        return None;
     }
-    Rows::Wrong
+    let root = ad.root(j);
+    let tree = tree_check::visit(ad, n, root, o + len)?;
+    if syntax::LEVELS < tree.level {
+        return None;
+    }
+    let rest = rows_from(ad, j + 1, root + 1, tree.end)?;
+    Some(with_row(len, tree.print, rest))
 }
 
 // Whether the names of d definitions are distinct.
-fn distinct(words: &[u64], bytes: &[u8], d: usize) -> bool
-    requires { (d ≤ max_definitions) × (ad_words ≤ length words.now) }
-    ensures { result ≡ new_from words.now bytes.now 0 d }
+fn distinct(ad: StoredAd<'_>, d: usize) -> bool
+    requires { d ≤ max_definitions }
+    ensures { result ≡ new_from ad.entry.words.now ad.entry.bytes.now 0 d }
 {
-    let mut j = 0;
-    while j < d {
-        let name = ad::part(bytes, ad::offset(words, j), ad::name_length(words, j));
-        if ad::defined(words, bytes, j, name) {
+    for j in 0..d {
+        if ad.defined(j, ad.name(j)) {
             return false;
         }
-        j += 1;
     }
     true
 }
@@ -104,33 +111,33 @@ fn print_length(d: usize, t: usize) -> usize
 }
 
 // The check over exactly the room of an ad.
-fn check_room(words: &[u64], bytes: &[u8]) -> Checked
-    requires { (length words.now ≡ ad_words) × (length bytes.now ≡ ad_bytes_room) }
-    ensures { AnswersRoom words.now bytes.now result }
+fn check_room(ad: StoredAd<'_>) -> Option<Checked>
+    requires { (length ad.words.now ≡ ad_words) × (length ad.bytes.now ≡ ad_bytes_room) }
+    ensures { AnswersRoom ad.entry.words.now ad.entry.bytes.now result }
 {
-    match rows_from(words, bytes, 0, 0, 0) {
-        Rows::Wrong => Checked::Malformed,
-        Rows::Ads(d, n, k, t) => {
-            if both(
-                distinct(words, bytes, d),
-                unused_room::zero_behind(words, bytes, d, n, k),
-            ) {
-                return Checked::WellFormed(d, n, print_length(d, t));
-            }
-            Checked::Malformed
-        }
+    let rows = rows_from(ad, 0, 0, 0)?;
+    let Counts { definitions, nodes } = rows.counts;
+    if distinct(ad, definitions)
+        && unused_room::zero_behind(ad.words, ad.bytes, definitions, nodes, rows.end)
+    {
+        Some(Checked {
+            counts: rows.counts,
+            print_length: print_length(definitions, rows.print),
+        })
+    } else {
+        None
     }
 }
 
-// Whether some memory is a stored ad, exactly as some text would leave it.
-pub fn check(words: &[u64], bytes: &[u8]) -> Checked
+// Whether some memory is a stored ad, exactly as some text would leave it: what it has; none where it is no stored ad.
+pub fn check(words: &[u64], bytes: &[u8]) -> Option<Checked>
     ensures { Answers words.now bytes.now result }
 {
-    if words.len() < ad::WORDS {
-        return Checked::Malformed;
+    if words.len() < ad::WORDS || bytes.len() < ad::BYTES {
+        return None;
     }
-    if bytes.len() < ad::BYTES {
-        return Checked::Malformed;
-    }
-    check_room(&words[..ad::WORDS], &bytes[..ad::BYTES])
+    check_room(StoredAd {
+        words: &words[..ad::WORDS],
+        bytes: &bytes[..ad::BYTES],
+    })
 }

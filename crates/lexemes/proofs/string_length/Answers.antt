@@ -4,15 +4,11 @@ use Rattle.lexemes.proofs.Laws.{escaped_more, escaped_end}
 use native.Mathlib.Omega.{arith}
 use Rattle.lexemes.proofs.string_length.Goals as goal
 
-pub loop-i-init : goal.loop-i-init
-loop-i-init c = (omega arith, omega arith, omega arith)
-
-pub loop-i-preserved : goal.loop-i-preserved
-loop-i-preserved c = let m = escaped_more c.args.s.now c.loop-i.i (omega arith) in
-    (omega arith, omega arith, omega (arith, c.escaped_length-n.ensures.0, c.loop-i.invariant.2))
+pub loop-b-preserved : goal.loop-b-preserved
+loop-b-preserved c = let m = escaped_more c.args.s.now c.loop-b.b-index (omega arith) in
+    (omega arith, omega (arith, c.escaped_length-n.ensures.0, c.loop-b.invariant.1))
 
 pub returns : goal.returns
 unfolding literal_text
-returns c = let m = escaped_end c.args.s.now c.loop-i.i
-    (omega arith) in
-    (simp length-append (omega (arith, c.loop-i.invariant.2)), omega arith)
+returns c = let m = escaped_end c.args.s.now c.loop-b.b-index (omega arith) in
+    (simp length-append (omega (arith, c.loop-b.invariant.1)), omega arith)

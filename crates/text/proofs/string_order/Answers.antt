@@ -1,46 +1,26 @@
--- `text::string_order` meets its contract. Assumes nothing.
-use mathlib.Core.Path.{refl, sym, ◌∙◌}
+use Rattle.std.proofs.Common.{refl, sym, ◌∙◌}
+use Rattle.std.proofs.lemmas.List.{length_push}
+use Rattle.std.proofs.lemmas.Slice.Zip.{zip_turn, zip_end}
 use Rattle.text.specs.Strings.{string_order}
-use Rattle.text.proofs.Compare.{less, greater, next, longer, shorter, ended}
-use borrow.Author.Rules.{rules}
+use Rattle.text.proofs.Compare.{decided, next, ended}
 use Rattle.text.proofs.string_order.Goals as goal
 
-pub loop-i-init : goal.loop-i-init
+pub loop-x-init : goal.loop-x-init
 unfolding string_order
-loop-i-init c = (search rules, refl)
+loop-x-init c = ((tt, tt), tt, refl)
 
-pub returns-then-b-i : goal.returns-then-b-i
-returns-then-b-i c = sym (c.loop-i.invariant.1
-    ∙ longer c.args.a.now c.args.b.now c.loop-i.i c.loop-i-test.true
-    c.if-b-i.true)
+pub returns-then-is_ne : goal.returns-then-is_ne
+returns-then-is_ne c =
+    let t = zip_turn c.args.a.now c.args.b.now c.loop-x.yielded _ _ c.next.new.self _ (cc) (cc) c.loop-x.yielded_by _ c.in-Some.is c.next.ensures.steps in
+    sym (c.loop-x.invariant.2 ∙ decided c.args.a.now c.args.b.now _ _ _ _ t.0 t.1 (t.2 0) (t.3 0) (rw (← c.lower.ensures, ← c.lower-in-loop-x.ensures) c.cmp-order.ensures) (sym c.is_ne.ensures ∙ c.if-is_ne.true))
 
-pub returns-then-x-y : goal.returns-then-x-y
-returns-then-x-y c = sym (c.loop-i.invariant.1
-    ∙ less c.args.a.now c.args.b.now c.loop-i.i _ _
-    c.loop-i-test.true c.if-b-i.false
-    c.lower-x.ensures c.lower-y.ensures c.if-x-y.true)
-
-pub returns-then-y-x : goal.returns-then-y-x
-returns-then-y-x c = sym (c.loop-i.invariant.1
-    ∙ greater c.args.a.now c.args.b.now c.loop-i.i _ _
-    c.loop-i-test.true c.if-b-i.false
-    c.lower-x.ensures c.lower-y.ensures c.if-y-x.true)
-
-pub loop-i-preserved : goal.loop-i-preserved
-loop-i-preserved c = (
-  search rules,
-  c.loop-i.invariant.1
-      ∙ next c.args.a.now c.args.b.now c.loop-i.i _ _
-      c.loop-i-test.true c.if-b-i.false
-      c.lower-x.ensures c.lower-y.ensures c.if-x-y.false
-      c.if-y-x.false,
-)
-
-pub returns-then-i-b : goal.returns-then-i-b
-returns-then-i-b c = sym (c.loop-i.invariant.1
-    ∙ shorter c.args.a.now c.args.b.now c.loop-i.i c.loop-i-test.false
-    c.if-i-b.true)
+pub loop-x-preserved : goal.loop-x-preserved
+loop-x-preserved c =
+    let t = zip_turn c.args.a.now c.args.b.now c.loop-x.yielded _ _ c.next.new.self _ (cc) (cc) c.loop-x.yielded_by _ c.in-Some.is c.next.ensures.steps in
+    let e = next c.args.a.now c.args.b.now _ _ _ _ t.0 t.1 (t.2 0) (t.3 0) (rw (← c.lower.ensures, ← c.lower-in-loop-x.ensures) c.cmp-order.ensures) (sym c.is_ne.ensures ∙ c.if-is_ne.false) in
+    ((tt, tt), tt, rw (length_push c.loop-x.yielded (c.in-Some.x, c.in-Some.y)) (c.loop-x.invariant.2 ∙ e))
 
 pub returns : goal.returns
-returns c = sym (c.loop-i.invariant.1
-    ∙ ended c.args.a.now c.args.b.now c.loop-i.i c.loop-i-test.false c.if-i-b.false)
+returns c =
+    let e = zip_end c.args.a.now c.args.b.now c.loop-x.yielded _ _ c.next.new.self _ (cc) (cc) c.loop-x.yielded_by c.in-None.is c.next.ensures.steps in
+    sym (c.loop-x.invariant.2 ∙ ended c.args.a.now c.args.b.now _ _ e c.cmp.ensures)

@@ -1,5 +1,5 @@
 -- The tree that stands in some memory, or none: what the check goes by. w are the words and b the bytes of an ad. Assumes nothing.
-use Rattle.std.specs.Prelude.{ℕ, zero, suc, ◌+◌, ◌≤◌, ◌<◌, max, ◌≡◌, Bool, cond, ◌&&◌, List, length, ltb, leb, eqb}
+use Rattle.std.specs.Prelude.{ℕ, zero, suc, Option, Some, None, ◌+◌, ◌≤◌, ◌<◌, max, ◌≡◌, Bool, cond, ◌&&◌, List, length, ltb, leb, eqb}
 use Rattle.syntax.specs.Bounds.{max_integer}
 use Rattle.syntax.specs.Tree.{undefined, error, boolean, integer, real, string, own, other, Expr, literal, reference, unary, binary, conditional}
 use Rattle.syntax.specs.Token.{pick}
@@ -10,9 +10,8 @@ use Rattle.syntax.specs.Inner.Lexeme.{is_name, is_string, is_real}
 use Rattle.ad.specs.Layout.{expr_bytes}
 use Rattle.ad.specs.Stored.{kind_at, operand_at, bytes_at, unary_of, binary_of}
 use Rattle.node_shapes.specs.declared.Shape.{Shape}
-use Rattle.node_shapes.specs.declared.Shape.TheVariants.{Leaf, One, Two, Three, Nothing}
-use Rattle.tree_check.specs.declared.Walk.{Walk}
-use Rattle.tree_check.specs.declared.Walk.TheVariants.{Tree, Bad}
+use Rattle.node_shapes.specs.declared.Shape.TheVariants.{Leaf, One, Two, Three}
+use Rattle.tree_check.specs.declared.Tree.{Tree}
 use Rattle.node_shapes.specs.Inner.Shapes.{shape_at}
 
 -- what is found at some nodes: their tree, or none
@@ -30,12 +29,12 @@ abbrev pub test : Bool → (Unit {0} → Found) → Found
 test t go = pick t go (λ _. bad)
 
 -- goes on by how many operands there are; where they do not fit there is no tree
-abbrev pub on_shape : Shape → (Unit {0} → Found) → (ℕ → Found) → (ℕ → ℕ → Found) → (ℕ → ℕ → ℕ → Found) → Found
-on_shape Leaf l f g h = l tt
-on_shape (One x) l f g h = f x
-on_shape (Two x y) l f g h = g x y
-on_shape (Three x y z) l f g h = h x y z
-on_shape Nothing l f g h = bad
+abbrev pub on_shape : Option Shape → (Unit {0} → Found) → (ℕ → Found) → (ℕ → ℕ → Found) → (ℕ → ℕ → ℕ → Found) → Found
+on_shape (Some Leaf) l f g h = l tt
+on_shape (Some (One x)) l f g h = f x
+on_shape (Some (Two x y)) l f g h = g x y
+on_shape (Some (Three x y z)) l f g h = h x y z
+on_shape None l f g h = bad
 
 -- ---- literals and references, whose bytes, if they have some, begin at o
 
@@ -92,44 +91,48 @@ tree_at (suc f) w b s i o =
 
 -- ---- what the walk answers of it
 
+-- a tree whose bytes end at the place p, which binds at b, whose highest level is d, and which prints n bytes
+abbrev pub tree : ℕ → ℕ → ℕ → ℕ → Option Tree
+tree p b d n = Some (record { end = p; binds = b; level = d; print = n })
+
 -- r is what is found: where its bytes end, how it binds, the highest level and the length of its print
-abbrev pub Same : ℕ → Found → Walk → Type 0
-Same o x (Tree k b d n) =
-    (e : Expr) × (x ≡ got e) × (k ≡ o + length (expr_bytes e)) × (b ≡ binds e) × (d ≡ level_of e) × (n ≡ length (printed e))
-Same o x Bad = x ≡ bad
+abbrev pub Same : ℕ → Found → Option Tree → Type 0
+Same o x (Some t) =
+    (e : Expr) × (x ≡ got e) × (t.end ≡ o + length (expr_bytes e)) × (t.binds ≡ binds e) × (t.level ≡ level_of e) × (t.print ≡ length (printed e))
+Same o x None = x ≡ bad
 
 -- the answer r is what is found at the nodes s to i, under any bound f of the depth that is enough
-abbrev pub WalkOk : List ℕ → List ℕ → ℕ → ℕ → ℕ → Walk → Type 0
+abbrev pub WalkOk : List ℕ → List ℕ → ℕ → ℕ → ℕ → Option Tree → Type 0
 WalkOk w b s i o r = (f : ℕ) → i < f + s → Same o (tree_at f w b s i o) r
 
 -- ---- the parts of the walk's answer
 
 -- one answer or none
-abbrev pub walk_if : Bool → Walk → Walk
-walk_if t r = cond t r Bad
+abbrev pub walk_if : Bool → Option Tree → Option Tree
+walk_if t r = cond t r None
 
 -- a literal that has no bytes of its own, n bytes long in print: it binds last, 'then literals, references and parentheses', and
 -- has no level above 'level 0'
-abbrev pub plain_walk : ℕ → ℕ → Walk
-plain_walk o n = Tree o 8 0 n
+abbrev pub plain_walk : ℕ → ℕ → Option Tree
+plain_walk o n = tree o 8 0 n
 
 -- n, and two bytes more where parentheses are needed: 'Parentheses only where the tree would otherwise read differently'
 abbrev pub wrap_length : ℕ → ℕ → ℕ → ℕ
 wrap_length k b n = cond (ltb b k) (n + 2) n
 
 -- an operator before one operand: 'the operand of a unary operator .. one level deeper'; 'none after a unary one'
-abbrev pub unary_walk : ℕ → ℕ → ℕ → ℕ → Walk
-unary_walk p b d n = Tree p 7 (wrap_level 7 b d + 1) (wrap_length 7 b n + 1)
+abbrev pub unary_walk : ℕ → ℕ → ℕ → ℕ → Option Tree
+unary_walk p b d n = tree p 7 (wrap_level 7 b d + 1) (wrap_length 7 b n + 1)
 
 -- an operator between two: 'Binary operators group to the left.' 'One blank on each side of a binary operator'
-abbrev pub binary_walk : Binary → ℕ → ℕ → ℕ → ℕ → ℕ → ℕ → ℕ → Walk
+abbrev pub binary_walk : Binary → ℕ → ℕ → ℕ → ℕ → ℕ → ℕ → ℕ → Option Tree
 binary_walk j b d n q b₂ d₂ n₂ =
-    Tree q (binds_of j) (max (wrap_level (binds_of j) b d) (wrap_level (binds_of j + 1) b₂ d₂))
+    tree q (binds_of j) (max (wrap_level (binds_of j) b d) (wrap_level (binds_of j + 1) b₂ d₂))
     (wrap_length (binds_of j) b n + (length (binary_text j) + wrap_length (binds_of j + 1) b₂ n₂ + 2))
 
 -- a conditional: 'both arms of a conditional are one level deeper'; 'One blank on each side .. of `?` and `:`'
-abbrev pub conditional_walk : ℕ → ℕ → ℕ → ℕ → ℕ → ℕ → ℕ → ℕ → Walk
-conditional_walk b d n d₂ n₂ q d₃ n₃ = Tree q 0 (max (wrap_level 1 b d) (max d₂ d₃ + 1)) (wrap_length 1 b n + (n₂ + n₃ + 6))
+abbrev pub conditional_walk : ℕ → ℕ → ℕ → ℕ → ℕ → ℕ → ℕ → ℕ → Option Tree
+conditional_walk b d n d₂ n₂ q d₃ n₃ = tree q 0 (max (wrap_level 1 b d) (max d₂ d₃ + 1)) (wrap_length 1 b n + (n₂ + n₃ + 6))
 
 -- ---- what the walks are given
 

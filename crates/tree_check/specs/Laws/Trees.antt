@@ -1,4 +1,5 @@
 -- The tree that is found is the one that stands there, and one that stands there is found. Assumes nothing.
+use Rattle.std.specs.Prelude.{Option, Some, None}
 use Rattle.std.specs.Prelude.{ℕ, zero, suc, ◌+◌, ◌-◌, ◌*◌, ◌≤◌, ◌<◌, ◌≡◌, true, ◌&&◌}
 use Rattle.std.proofs.Common.{arith, ◌∙◌, subst}
 use Rattle.std.proofs.Math.Path.{refl, sym, ap}
@@ -18,7 +19,7 @@ use Rattle.tree_check.specs.Laws.Runs.{Stands, stands_at_lem, stands_as, stands_
 use Rattle.node_shapes.specs.Laws.Shapes.{Facts, shape_facts, leaf_shape, one_shape, two_shape, three_shape}
 use Rattle.tree_check.specs.Laws.Leaves.{All, on_chain, Run, leaf_sound, literal_complete, name_complete}
 use Rattle.node_shapes.specs.declared.Shape.{Shape}
-use Rattle.node_shapes.specs.declared.Shape.TheVariants.{Leaf, One, Two, Three, Nothing}
+use Rattle.node_shapes.specs.declared.Shape.TheVariants.{Leaf, One, Two, Three}
 
 -- ---- kinds
 
@@ -140,16 +141,16 @@ module _ {w b : List ℕ} {s u o i : ℕ} where
 -- ---- SOUND
 
 module _ (P : Expr → Type 0) (s i k x y z : ℕ) where
-  on_shape_lem : (r : Shape) (l : Unit {0} → Found) (f : ℕ → Found) (g : ℕ → ℕ → Found) (h : ℕ → ℕ → ℕ → Found) → Facts s i k x y z r →
-      (Facts s i k x y z Leaf → All P (l tt)) →
-      ((u : ℕ) → Facts s i k x y z (One u) → All P (f u)) →
-      ((u v : ℕ) → Facts s i k x y z (Two u v) → All P (g u v)) →
-      ((u v t : ℕ) → Facts s i k x y z (Three u v t) → All P (h u v t)) → All P (on_shape r l f g h)
-  on_shape_lem Leaf l f g h F a c d e = a F
-  on_shape_lem (One u) l f g h F a c d e = c u F
-  on_shape_lem (Two u v) l f g h F a c d e = d u v F
-  on_shape_lem (Three u v t) l f g h F a c d e = e u v t F
-  on_shape_lem Nothing l f g h F a c d e = tt
+  on_shape_lem : (r : Option Shape) (l : Unit {0} → Found) (f : ℕ → Found) (g : ℕ → ℕ → Found) (h : ℕ → ℕ → ℕ → Found) → Facts s i k x y z r →
+      (Facts s i k x y z (Some Leaf) → All P (l tt)) →
+      ((u : ℕ) → Facts s i k x y z (Some (One u)) → All P (f u)) →
+      ((u v : ℕ) → Facts s i k x y z (Some (Two u v)) → All P (g u v)) →
+      ((u v t : ℕ) → Facts s i k x y z (Some (Three u v t)) → All P (h u v t)) → All P (on_shape r l f g h)
+  on_shape_lem (Some Leaf) l f g h F a c d e = a F
+  on_shape_lem (Some (One u)) l f g h F a c d e = c u F
+  on_shape_lem (Some (Two u v)) l f g h F a c d e = d u v F
+  on_shape_lem (Some (Three u v t)) l f g h F a c d e = e u v t F
+  on_shape_lem None l f g h F a c d e = tt
 
 pub tree_sound : (f : ℕ) (w b : List ℕ) (s i o : ℕ) → 4 * i + 4 ≤ length w → All (Run w b s i o) (tree_at f w b s i o)
 unfolding tree_at
@@ -282,7 +283,7 @@ tree_complete (unary j p) w b s i o r (suc f) h =
     let k = unary_between j (kind_at w i) y.0 in
     let x₁ = s + size p - 1 in
     let n = one_place s i (size p) x₁ f (back s (size p) (size_some p)) (size_some p) r.long h in
-    let sh : shape_at w s i ≡ One x₁ = (λ m. shape_of s i (kind_at w i) (y.1 m) (operand_at w i 1) (operand_at w i 2)) ∙ one_shape s i (kind_at w i) x₁ (operand_at w i 1) (operand_at w i 2) k.0 k.1 n.0 n.1 y.2 y.3 in
+    let sh : shape_at w s i ≡ Some (One x₁) = (λ m. shape_of s i (kind_at w i) (y.1 m) (operand_at w i 1) (operand_at w i 2)) ∙ one_shape s i (kind_at w i) x₁ (operand_at w i 1) (operand_at w i 2) k.0 k.1 n.0 n.1 y.2 y.3 in
     rw (sh, tree_complete p w b s x₁ o y.4 f n.2, y.0, unary_found j) refl
 tree_complete (binary j p q) w b s i o r (suc f) h =
     let y = binary_parts j p q r in
@@ -291,7 +292,7 @@ tree_complete (binary j p q) w b s i o r (suc f) h =
     let x₂ = s + size p + size q - 1 in
     let e = back s (size p) (size_some p) in
     let n = two_places s i (size p) (size q) x₁ x₂ f e (back (s + size p) (size q) (size_some q)) (size_some p) (size_some q) r.long h in
-    let sh : shape_at w s i ≡ Two x₁ x₂ = (λ m. shape_of s i (kind_at w i) (y.1 m) (y.2 m) (operand_at w i 2)) ∙ two_shape s i (kind_at w i) x₁ x₂ (operand_at w i 2) k.0 k.1 n.0 n.1 n.2 y.3 in
+    let sh : shape_at w s i ≡ Some (Two x₁ x₂) = (λ m. shape_of s i (kind_at w i) (y.1 m) (y.2 m) (operand_at w i 2)) ∙ two_shape s i (kind_at w i) x₁ x₂ (operand_at w i 2) k.0 k.1 n.0 n.1 n.2 y.3 in
     rw (sh, tree_complete p w b s x₁ o y.4 f n.3, e, tree_complete q w b (s + size p) x₂ (o + length (expr_bytes p)) y.5 f n.4, y.0, binary_found j) refl
 tree_complete (conditional p q c) w b s i o r (suc f) h =
     let y = conditional_parts p q c r in
@@ -301,5 +302,5 @@ tree_complete (conditional p q c) w b s i o r (suc f) h =
     let e = back s (size p) (size_some p) in
     let e' = back (s + size p) (size q) (size_some q) in
     let n = three_places s i (size p) (size q) (size c) x₁ x₂ x₃ f e e' (back (s + size p + size q) (size c) (size_some c)) (size_some p) (size_some q) (size_some c) r.long h in
-    let sh : shape_at w s i ≡ Three x₁ x₂ x₃ = (λ m. shape_of s i (kind_at w i) (y.1 m) (y.2 m) (y.3 m)) ∙ three_shape s i (kind_at w i) x₁ x₂ x₃ y.0 n.0 n.1 n.2 n.3 in
+    let sh : shape_at w s i ≡ Some (Three x₁ x₂ x₃) = (λ m. shape_of s i (kind_at w i) (y.1 m) (y.2 m) (y.3 m)) ∙ three_shape s i (kind_at w i) x₁ x₂ x₃ y.0 n.0 n.1 n.2 n.3 in
     rw (sh, tree_complete p w b s x₁ o y.4 f n.4, e, tree_complete q w b (s + size p) x₂ (o + length (expr_bytes p)) y.5 f n.5, e', tree_complete c w b (s + size p + size q) x₃ (o + length (expr_bytes p) + length (expr_bytes q)) y.6 f n.6) refl

@@ -1,23 +1,22 @@
-use mathlib.Core.Path.{◌∙◌, ap}
-use Rattle.tree_printer.proofs.Trees.{binds_leaf, binds_unary, binds_conditional, binds_binary}
+use Rattle.std.proofs.Common.{refl, ◌∙◌, ap, arith}
 use Rattle.syntax.specs.Grammar.{binds_of}
-use Rattle.tree_printer.specs.Inner.Post.{binds_kind}
+use Rattle.ad.specs.Layout.{code_of}
+use Rattle.tree_printer.proofs.Trees.{binds_leaf, binds_unary, binds_conditional, binds_binary, kind_low, unary_from, unary_below, binary_above, binary_is}
 use Rattle.tree_printer.proofs.binding.Goals as goal
 
-pub returns-then-k-lt9 : goal.returns-then-k-lt9
-returns-then-k-lt9 c = binds_leaf c.kind-k.result c.if-k-lt9.true ∙ ap binds_kind c.kind-k.ensures
+pub returns-in-Unary : goal.returns-in-Unary
+returns-in-Unary c =
+    let e = ap code_of c.in-Unary.is in
+    binds_unary _ (unary_from c.in-Unary.field-0 e) (unary_below c.in-Unary.field-0 e)
 
-pub returns-then-k-lt12 : goal.returns-then-k-lt12
-returns-then-k-lt12 c = binds_unary c.kind-k.result c.if-k-lt9.false c.if-k-lt12.true
-    ∙ ap binds_kind c.kind-k.ensures
+pub returns-in-Conditional : goal.returns-in-Conditional
+returns-in-Conditional c = binds_conditional _ (ap code_of c.in-Conditional.is)
 
-pub returns-then-k-eq12 : goal.returns-then-k-eq12
-returns-then-k-eq12 c = binds_conditional c.kind-k.result c.if-k-eq12.true
-    ∙ ap binds_kind c.kind-k.ensures
+pub returns-in-Binary : goal.returns-in-Binary
+returns-in-Binary c =
+    let e = ap code_of c.in-Binary.is in
+    let h = binary_above c.in-Binary.j e in
+    c.binds.ensures ∙ ap binds_of (binary_is c.in-Binary.j e) ∙ binds_binary _ (omega arith) (omega arith) (λ z. omega arith)
 
-pub returns : goal.returns
-returns c = c.binds.ensures
-    ∙ ap binds_of c.binary_of.ensures
-    ∙ binds_binary c.kind-k.result c.if-k-lt9.false c.if-k-lt12.false
-    c.if-k-eq12.false
-    ∙ ap binds_kind c.kind-k.ensures
+pub returns-in_default : goal.returns-in_default
+returns-in_default c = binds_leaf _ (kind_low c.args.kind refl c.in_default.not-Unary c.in_default.not-Conditional c.in_default.not-Binary)

@@ -1,5 +1,5 @@
 -- The ad that stands in some memory, or none: what the check goes by. w are the words and b the bytes of an ad. Assumes nothing.
-use Rattle.std.specs.Prelude.{ℕ, zero, suc, ◌+◌, ◌-◌, ◌≤◌, ◌<◌, ◌≡◌, Bool, true, not, ◌&&◌, List, [], ◌∷◌, length, ltb, leb, eqb}
+use Rattle.std.specs.Prelude.{ℕ, zero, suc, Option, Some, None, ◌+◌, ◌-◌, ◌≤◌, ◌<◌, ◌≡◌, Bool, true, not, ◌&&◌, List, [], ◌∷◌, length, ltb, leb, eqb}
 use Rattle.syntax.specs.Bounds.{max_nodes, max_level}
 use Rattle.syntax.specs.Tree.{Expr, Ad, nodes}
 use Rattle.syntax.specs.Token.{pick}
@@ -9,7 +9,6 @@ use Rattle.ad.specs.Layout.{expr_bytes, ad_bytes}
 use Rattle.ad.specs.Stored.{offset_at, length_at, root_at, bytes_at}
 use Rattle.ad.specs.Inner.Names.{defined_in}
 use Rattle.well_formed.specs.declared.Rows.{Rows}
-use Rattle.well_formed.specs.declared.Rows.TheVariants.{Ads, Wrong}
 use Rattle.tree_check.specs.Inner.Decode.{Found, got, bad, stands_at, tree_at}
 
 -- ---- the ad of the definitions from j on, k at most, whose nodes begin at n and whose bytes begin at o
@@ -56,11 +55,15 @@ unfoldable pub rows_length : Ad → ℕ
 rows_length [] = 0
 rows_length (d ∷ ds) = length (definition_text d) + 2 + rows_length ds
 
+-- d definitions and m nodes, k the place behind their bytes, and t how long they print
+abbrev pub rows : ℕ → ℕ → ℕ → ℕ → Option Rows
+rows d m k t = Some (record { counts = record { definitions = d; nodes = m }; end = k; print = t })
+
 -- r is what is found: how many definitions and nodes there are then, where the bytes end, and how long they print
-abbrev pub SameAd : ℕ → ℕ → ℕ → FoundAd → Rows → Type 0
-SameAd j n o x (Ads d m k t) =
-    (a : Ad) × (x ≡ all a) × (d ≡ j + length a) × (m ≡ n + nodes a) × (k ≡ o + length (ad_bytes a)) × (t ≡ rows_length a)
-SameAd j n o x Wrong = x ≡ none
+abbrev pub SameAd : ℕ → ℕ → ℕ → FoundAd → Option Rows → Type 0
+SameAd j n o x (Some r) =
+    (a : Ad) × (x ≡ all a) × (r.counts.definitions ≡ j + length a) × (r.counts.nodes ≡ n + nodes a) × (r.end ≡ o + length (ad_bytes a)) × (r.print ≡ rows_length a)
+SameAd j n o x None = x ≡ none
 
 -- ---- distinct names
 
@@ -81,16 +84,16 @@ pub record RowsRoom (w b : List ℕ) (j n o : ℕ) : Type 0 where
   pub bytes : length b ≡ 16384
 
 -- the answer r is what is found at the definitions from j on
-abbrev pub RowsOk : List ℕ → List ℕ → ℕ → ℕ → ℕ → Rows → Type 0
+abbrev pub RowsOk : List ℕ → List ℕ → ℕ → ℕ → ℕ → Option Rows → Type 0
 RowsOk w b j n o r = SameAd j n o (ad_at (256 - j) w b j n o) r
 
 -- a definition in front of others, l the length of its name and p that of its expression: 'definitions as `name = expression`
 -- joined by `; `'
-abbrev pub row_before : ℕ → ℕ → Rows → Rows
-row_before l p (Ads d n k t) = Ads d n k (l + p + 5 + t)
-row_before l p Wrong = Wrong
+abbrev pub row_before : ℕ → ℕ → Option Rows → Option Rows
+row_before l p (Some r) = Some (record r { print = l + p + 5 + r.print })
+row_before l p None = None
 
 -- the print is short enough to be counted without overflow
-abbrev pub RowsSmall : Rows → Type 0
-RowsSmall (Ads d n k t) = t < 100000
-RowsSmall Wrong = Unit {0}
+abbrev pub RowsSmall : Option Rows → Type 0
+RowsSmall (Some r) = r.print < 100000
+RowsSmall None = Unit {0}
