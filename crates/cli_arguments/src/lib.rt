@@ -74,7 +74,7 @@ fn budget(rt: &HostRuntime, count: usize) -> Option<u16> {
 }
 
 // What a command asks for, of `count` words; none where it does not take as many.
-fn request(rt: &HostRuntime, command: &[u8], count: usize) -> Option<Request> {
+fn request_of(rt: &HostRuntime, command: &[u8], count: usize) -> Option<Request> {
     match command {
         b"check" if 3 <= count => Some(Request::Check(count)),
         b"print" if count == 3 => Some(Request::Print),
@@ -100,7 +100,7 @@ fn files_end(request: Request) -> usize {
 pub fn requested(rt: &HostRuntime) -> Option<Request> {
     let mut word = [0u8; 16];
     let n = rt.arg(1, &mut word).unwrap_or(0);
-    let request = request(rt, parts::cut(&word, 0, n), argument_count(rt))?;
+    let request = request_of(rt, parts::cut(&word, 0, n), argument_count(rt))?;
     if input_twice(rt, 2, files_end(request)) {
         return None;
     }

@@ -91,8 +91,8 @@ fn found(out: &mut Output, reference: Reference<'_>, circular: bool) {
     out.say(b";\n");
 }
 
-// A reference of node i of an ad, `far` says in which ad its name is looked up.
-fn reference(out: &mut Output, second: bool, ads: TwoAds<'_>, i: usize, far: bool, circular: bool)
+// A reference, node i of an ad; `far` says in which ad its name is looked up.
+fn draw_reference(out: &mut Output, second: bool, ads: TwoAds<'_>, i: usize, far: bool, circular: bool)
     requires { i < max_nodes }
 {
     let ad = ads.ad(second);
@@ -113,8 +113,8 @@ fn node(out: &mut Output, second: bool, ads: TwoAds<'_>, i: usize, circular: boo
     requires { i < max_nodes }
 {
     match ads.ad(second).kind(i) {
-        Some(Kind::Own) => reference(out, second, ads, i, second, circular),
-        Some(Kind::Other) => reference(out, second, ads, i, !second, circular),
+        Some(Kind::Own) => draw_reference(out, second, ads, i, second, circular),
+        Some(Kind::Other) => draw_reference(out, second, ads, i, !second, circular),
         _ => {}
     }
 }
