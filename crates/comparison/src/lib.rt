@@ -7,7 +7,7 @@ ghost use Rattle.values.specs.Values.{bytes_at};
 ghost use Rattle.comparison.specs.Comparison.{integers_compare, reals_compare, by_order, order_holds, comparison_value};
 
 use operands::Operands;
-use text::Order;
+use std::cmp::Ordering;
 use values::Value;
 
 #[derive(Clone, Copy)]
@@ -46,17 +46,17 @@ fn compare_reals(op: Comparison, x: f64, y: f64) -> bool
     }
 }
 
-fn by_order(less: bool, same: bool, greater: bool, order: Order) -> bool
+fn by_order(less: bool, same: bool, greater: bool, order: Ordering) -> bool
     ensures { result ≡ by_order less same greater order }
 {
     match order {
-        Order::Less => less,
-        Order::Same => same,
-        Order::Greater => greater,
+        Ordering::Less => less,
+        Ordering::Equal => same,
+        Ordering::Greater => greater,
     }
 }
 
-fn order_holds(op: Comparison, order: Order) -> bool
+fn order_holds(op: Comparison, order: Ordering) -> bool
     ensures { result ≡ order_holds op order }
 {
     match op {
@@ -70,13 +70,13 @@ fn order_holds(op: Comparison, order: Order) -> bool
 }
 
 // The order of `s` and what stands at a place of a memory.
-fn order_at(s: &[u8], memory: &[u8], offset: u16, length: u16) -> Order
+fn order_at(s: &[u8], memory: &[u8], offset: u16, length: u16) -> Ordering
     ensures { result ≡ string_order s.now (take length (drop offset memory.now)) }
 {
     text::string_order(s, parts::cut(memory, offset as usize, length as usize))
 }
 
-fn order_with(first: &[u8], second: &[u8], s: &[u8], side: bool, offset: u16, length: u16) -> Order
+fn order_with(first: &[u8], second: &[u8], s: &[u8], side: bool, offset: u16, length: u16) -> Ordering
     ensures { result ≡ string_order s.now (bytes_at first.now second.now side offset length) }
 {
     if side {
@@ -94,7 +94,7 @@ fn strings_order(
     s: bool,
     o: u16,
     n: u16,
-) -> Order
+) -> Ordering
     ensures { result ≡ string_order (bytes_at first.now second.now side offset length) (bytes_at first.now second.now s o n) }
 {
     if side {

@@ -14,10 +14,10 @@ use values::Value;
 
 // The nodes of two well-formed ads, with the targets and flags by which their needs are known.
 #[derive(Clone, Copy)]
-pub struct Marked<'a> {
+pub struct Marked<'a, 'm> {
     pub sides: Sides<'a>,
-    pub target: &'a [usize],
-    pub flag: &'a [usize],
+    pub target: &'m [usize],
+    pub flag: &'m [usize],
 }
 
 // The value in a slot; a blank one reads as Undefined.
@@ -31,7 +31,7 @@ pub fn value_in(table: &[u64], y: usize) -> Value
 }
 
 // The value that the table holds for need i of the node x, by its marks.
-pub fn need_value(marked: Marked<'_>, table: &[u64], x: usize, i: usize) -> Value
+pub fn need_value(marked: Marked<'_, '_>, table: &[u64], x: usize, i: usize) -> Value
     requires { AtStep marked.sides.first.words.now marked.sides.second.words.now marked.target.now marked.flag.now x }
     ensures { result ≡ value_in (map (λ y. seen (slot_at table.now y)) (needs_of marked.entry x)) i }
 {

@@ -3,8 +3,8 @@
 
 ghost use Rattle.matching.specs.Matching.{Matched};
 
-use admission::Admission;
 use matching::Outcome;
+use syntax::Refusal;
 
 // THE MATCH of two stored ads, whatever is lent.
 pub fn match_ads(
@@ -15,7 +15,7 @@ pub fn match_ads(
     table: &mut [u64],
     list: &mut [u64],
     budget: u16,
-) -> Outcome
+) -> Result<Outcome, Refusal>
     ensures { Matched first_words.now first_bytes.now second_words.now second_bytes.now budget table.old list.old table.new list.new result }
 {
     let admitted = admission::admit(
@@ -28,17 +28,12 @@ pub fn match_ads(
         list.len(),
     );
     match admitted {
-        Admission::Refused(k) => Outcome::Refused(k, 0),
-        Admission::Admitted(first_counts, second_counts) => match_memory::match_formed(
-            &first_words[..ad::WORDS],
-            &first_bytes[..ad::BYTES],
-            first_counts,
-            &second_words[..ad::WORDS],
-            &second_bytes[..ad::BYTES],
-            second_counts,
+        Ok(ads) => Ok(match_memory::match_formed(
+            ads,
             &mut table[..matching::VALUES],
             &mut list[..admission::ENTRIES],
             budget,
-        ),
+        )),
+        Err(reason) => Err(Refusal { reason, place: 0 }),
     }
 }

@@ -4,14 +4,16 @@ use native.Mathlib.Omega.{arith}
 use mathlib.Core.Path.{◌≡◌, refl, sym, ap, ◌∙◌, subst}
 use mathlib.Core.Bool.{Bool, true, false, ◌&&◌}
 use mathlib.Core.List.{List, [], ◌∷◌, ◌++◌, map}
-use lib.ListN.{length, get_or, replicate, length-append, length-map, length-replicate, get_or-append}
-use lib.Seq.{take_all}
+use lib.ListN.{length, get_or, take, replicate, length-append, length-map, length-replicate, get_or-append}
+use lib.Seq.{take_all, length-take-le, get_or-take}
 use Rattle.graph.specs.Members.{◌∈◌, Each, raised}
 use Rattle.graph.proofs.Laws.Members.{mem_nil, at_mem}
+use Rattle.std.proofs.Common.{Option}
+use Rattle.graph.specs.Transition.{marked}
 use Rattle.graph.specs.Graph.{Sound, Node, needs, Entered}
 use Rattle.graph.proofs.Laws.Traversal.{needs_links, needs_acyclic}
 use Rattle.links.specs.Pair.{pair_graph, roots_of, requirements, rank}
-use Rattle.links.specs.Inner.Asked.{Formed, Stands, RootMarks}
+use Rattle.links.specs.Inner.Asked.{Formed, Stands, RootMarks, mark_of}
 use Rattle.links.specs.Laws.Soundness.{pair_sound}
 use Rattle.dependency.specs.Traversal.{Traversed}
 use Rattle.dependency.specs.Laws.Use.{clear_zeros}
@@ -73,24 +75,32 @@ module _ (v b w c : List ℕ) {count len : ℕ} {ta fl ls : List ℕ} (f : Forme
   unfolding pair_graph
   stands x h = h
 
+  pub list_long : len ≤ length ls
+  list_long = let e = t.length_is in let z = long in omega arith
+
+  -- the entries of the list's part are those of the list
+  entries_part : entries (length (take len ls)) (take len ls) ≡ entries len ls
+  unfolding entries
+  entries_part = ap (map (λ e. e - 1)) (take_all (length (take len ls)) (take len ls) (omega arith))
+
   -- what the run asks
-  pub at_run : {tb : List ℕ} → 2048 ≤ length ta → 2048 ≤ length fl → 4096 ≤ length tb → AtRun v w ta fl ls tb len
+  pub at_run : {tb : List ℕ} → 2048 ≤ length ta → 2048 ≤ length fl → 4096 ≤ length tb → AtRun v w ta fl (take len ls) tb
   at_run h k m = record {
-    first_formed = f;
-    second_formed = g;
     target_room = h;
     flag_room = k;
-    list_room_lem = let e = t.length_is in let z = long in omega arith;
     table_room_lem = m;
-    listed = λ i l.
-        let e = entry_at i l in
+    listed = λ i l'.
         let n = t.length_is in
-        (omega arith, subst (λ (u : ℕ). Stands v w u) (let q : get_or t.order i 0 ≡ get_or ls i 0 - 1 = omega arith in q) (stands _ (nodes (get_or t.order i 0) (at_mem t.order i (omega arith)))));
+        let l : i < len = let z = length-take-le len ls list_long in omega arith in
+        let e = get_or-take len ls i 0 l ∙ entry_at i l in
+        (omega arith, subst (λ (u : ℕ). Stands v w u) (let q : get_or t.order i 0 ≡ get_or (take len ls) i 0 - 1 = omega arith in q) (stands _ (nodes (get_or t.order i 0) (at_mem t.order i (omega arith)))));
   }
 
-  module _ {budget steps : ℕ} {before tb : List ℕ} (clear : before ≡ replicate 4096 0) (r : RunTo (needed (pair_graph v b w c) ta fl) (rule_at v b w c) (entries len ls) 0 budget before tb steps) where
+  module _ {budget steps : ℕ} {before tb : List ℕ} (clear : before ≡ replicate 4096 0) (r : RunTo (needed (pair_graph v b w c) ta fl) (rule_at v b w c) (entries (length (take len ls)) (take len ls)) 0 budget before tb steps) where
     run_is : RunTo (needs (pair_graph v b w c) (raised fl)) (rule_at v b w c) t.order 0 budget (replicate 4096 0) tb steps
-    run_is = (run_from f g t t.circular entered (subst (λ (l : List ℕ). RunTo (needed (pair_graph v b w c) ta fl) (rule_at v b w c) (entries len ls) 0 budget l tb steps) clear r)).run
+    run_is = (run_from f g t t.circular entered
+        (subst (λ (es : List ℕ). RunTo (needed (pair_graph v b w c) ta fl) (rule_at v b w c) es 0 budget (replicate 4096 0) tb steps) entries_part
+        (subst (λ (l : List ℕ). RunTo (needed (pair_graph v b w c) ta fl) (rule_at v b w c) (entries (length (take len ls)) (take len ls)) 0 budget l tb steps) clear r))).run
 
     ran_is : Ran Held seen (needs (pair_graph v b w c) (raised fl)) (rule_at v b w c) Blank t.order budget (slot_at tb)
     ran_is =
@@ -108,19 +118,23 @@ module _ (v b w c : List ℕ) {count len : ℕ} {ta fl ls : List ℕ} (f : Forme
     steps_are : steps ≡ min budget (length t.order)
     steps_are = run_is.counts ∙ ap (λ (n : ℕ). min budget n) (let q : length t.order - 0 ≡ length t.order = omega arith in q)
 
+    -- a root's value by its mark
+    worth_is : (l : List ℕ) (o : Option ℕ) → mark_of o ≡ marked l → worth_at tb o ≡ value_in (map (λ y. seen (slot_at tb y)) l) 0
+    worth_is l o e = worth_marked tb l o (λ q. ap mark_of (sym q) ∙ e) (λ y q. ap mark_of (sym q) ∙ e)
+
     -- the roots' marks give the four values
-    concluded : {p q i j : ℕ} → RootMarks v b w c p q i j → (n : ℕ) →
+    concluded : (p q i j : Option ℕ) → RootMarks v b w c (mark_of p) (mark_of q) (mark_of i) (mark_of j) → (n : ℕ) →
         Finished (is_true (worth_at tb p) && is_true (worth_at tb q)) (rank_of (worth_at tb i)) (rank_of (worth_at tb j)) n count ≡
         Finished (is_true (held false v b requirements) && is_true (held true w c requirements)) (rank_of (held false v b rank)) (rank_of (held true w c rank)) n count
-    concluded m n = λ t. Finished
-        (is_true (worth_marked tb (roots_of false v b requirements) m.first_required t) && is_true (worth_marked tb (roots_of true w c requirements) m.second_required t))
-        (rank_of (worth_marked tb (roots_of false v b rank) m.first_ranked t)) (rank_of (worth_marked tb (roots_of true w c rank) m.second_ranked t)) n count
+    concluded p q i j m n = λ t. Finished
+        (is_true (worth_is (roots_of false v b requirements) p m.first_required t) && is_true (worth_is (roots_of true w c requirements) q m.second_required t))
+        (rank_of (worth_is (roots_of false v b rank) i m.first_ranked t)) (rank_of (worth_is (roots_of true w c rank) j m.second_ranked t)) n count
 
     -- THE MATCH
-    pub match_of : {o : Outcome} {p q i j : ℕ} → length ls ≡ 2048 → RootMarks v b w c p q i j → (steps < len → o ≡ Unfinished steps count) →
+    pub match_of : {o : Outcome} (p q i j : Option ℕ) → length ls ≡ 2048 → RootMarks v b w c (mark_of p) (mark_of q) (mark_of i) (mark_of j) → (steps < len → o ≡ Unfinished steps count) →
         (len ≤ steps → o ≡ Finished (is_true (worth_at tb p) && is_true (worth_at tb q)) (rank_of (worth_at tb i)) (rank_of (worth_at tb j)) steps count) →
         Match v b w c budget tb ls o
-    match_of {o} h m u e = record {
+    match_of {o} p q i j h m u e = record {
       circular = raised fl;
       flagged = t.circular;
       order = t.order;
@@ -143,7 +157,7 @@ module _ (v b w c : List ℕ) {count len : ℕ} {ta fl ls : List ℕ} (f : Forme
             second_required = worked k (roots_of true w c requirements) (roots_second v b w c);
             first_ranked = worked k (roots_of false v b rank) (ranks_first v b w c);
             second_ranked = worked k (roots_of true w c rank) (ranks_second v b w c);
-            answers = e (omega arith) ∙ concluded m steps ∙ ap (λ (n : ℕ). Finished (is_true (held false v b requirements) && is_true (held true w c requirements)) (rank_of (held false v b rank)) (rank_of (held true w c rank)) n count) same;
+            answers = e (omega arith) ∙ concluded p q i j m steps ∙ ap (λ (n : ℕ). Finished (is_true (held false v b requirements) && is_true (held true w c requirements)) (rank_of (held false v b rank)) (rank_of (held true w c rank)) n count) same;
           };
       unfinished = λ k.
           let a = steps_are in

@@ -1,6 +1,8 @@
 -- The match of two stored ads: verdict, ranks, steps, and what is left in the table and in the list's room. v and b are the words and
 -- bytes of the first ad, w and c those of the second. Assumes nothing.
-use Rattle.std.specs.Prelude.{ℕ, suc, ◌-◌, ◌*◌, ◌≤◌, ◌<◌, ◌≡◌, Bool, true, false, ◌&&◌, List, [], ◌∷◌, ◌++◌, map, length, take, drop, replicate}
+use Rattle.std.specs.Prelude.{ℕ, suc, ◌-◌, ◌*◌, ◌≤◌, ◌<◌, ◌≡◌, Bool, true, false, ◌&&◌, Result, Ok, Err, List, [], ◌∷◌, ◌++◌, map, length, take, drop, replicate}
+use Rattle.syntax.specs.Refusals.{refusal}
+use Rattle.syntax.specs.declared.Refusal.{Refusal}
 use Rattle.ad.specs.Layout.{ad_words, ad_bytes_room}
 use Rattle.admission.specs.Admission.{small_pair, Refuses, Admits}
 use Rattle.values.specs.declared.Value.{Value}
@@ -15,7 +17,7 @@ use Rattle.valuation.specs.Gives.{Gives}
 use Rattle.valuation.specs.Run.{Ran}
 use Rattle.evaluation.specs.Evaluation.{rule_at, seen, steps_words}
 use Rattle.matching.specs.declared.Outcome.{Outcome}
-use Rattle.matching.specs.declared.Outcome.TheVariants.{Refused, Finished, Unfinished}
+use Rattle.matching.specs.declared.Outcome.TheVariants.{Finished, Unfinished}
 
 -- Worth xs v: v is the value of the definition whose root is in xs, or Undefined where there is none: 'those that exist'; 'or no Rank
 -- at all'
@@ -77,8 +79,8 @@ small v b w c table list = small_pair v b w c (length table) table_words (length
 
 -- THE CONTRACT OF `match_ads`, over any memory: table' and list' are what is lent of them after it. A refused call leaves 'all
 -- unchanged'; otherwise 'Memory lent beyond these sizes is never changed.'
-pub data Matched (v b w c : List ℕ) (budget : ℕ) (table list table' list' : List ℕ) (r : Outcome) : Type 0 where
-  refused : {k : ℕ} → Refuses v b w c (length table) table_words (length list) k → r ≡ Refused k 0 → table' ≡ table → list' ≡ list → Matched v b w c budget table list table' list' r
-  matches : Admits v b w c (length table) table_words (length list) → (values entries : List ℕ) →
-      Match (take ad_words v) (take ad_bytes_room b) (take ad_words w) (take ad_bytes_room c) budget values entries r →
+pub data Matched (v b w c : List ℕ) (budget : ℕ) (table list table' list' : List ℕ) (r : Result Outcome Refusal) : Type 0 where
+  refused : {k : ℕ} → Refuses v b w c (length table) table_words (length list) k → r ≡ Err (refusal k 0) → table' ≡ table → list' ≡ list → Matched v b w c budget table list table' list' r
+  matches : {o : Outcome} → Admits v b w c (length table) table_words (length list) → r ≡ Ok o → (values entries : List ℕ) →
+      Match (take ad_words v) (take ad_bytes_room b) (take ad_words w) (take ad_bytes_room c) budget values entries o →
       table' ≡ values ++ drop table_words table → list' ≡ entries ++ drop pair_slots list → Matched v b w c budget table list table' list' r

@@ -10,7 +10,7 @@ use evaluation::Marked;
 
 // THE RUN: from entry k on, one step for each entry, whose number is one more than its node's, until the budget or the list ends; it
 // counts the steps.
-pub fn run(marked: Marked<'_>, list: &[u64], k: usize, budget: u16, table: &mut [u64]) -> usize
+pub fn run(marked: Marked<'_, '_>, list: &[u64], k: usize, budget: u16, table: &mut [u64]) -> usize
     requires { AtRun marked.sides.first.words.now marked.sides.second.words.now marked.target.now marked.flag.now list.now table.old }
     ensures { RunTo (needs_of marked.entry) (rule_of_node marked.entry) (entries (length list.now) list.now) k budget table.old table.new result }
 {

@@ -40,7 +40,7 @@ fn node_at(sides: Sides<'_>, x: usize) -> Node
 }
 
 // THE STEP: the slot of the node x becomes what its rule makes of the slots of its needs, whatever they hold.
-pub fn step(marked: Marked<'_>, table: &mut [u64], x: usize)
+pub fn step(marked: Marked<'_, '_>, table: &mut [u64], x: usize)
     requires { AtStep marked.sides.first.words.now marked.sides.second.words.now marked.target.now marked.flag.now x }
     ensures { Stepped (needs_of marked.entry) (rule_of_node marked.entry) x table.old table.new }
 {

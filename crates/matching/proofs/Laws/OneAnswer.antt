@@ -1,8 +1,10 @@
 -- THE CONTRACT OF A MATCH LEAVES ONE ANSWER: two programs that keep it answer the same and leave the same memory, whatever they are
 -- lent. Assumes nothing.
-use Rattle.std.specs.Prelude.{ℕ, suc, ◌-◌, ◌≤◌, ◌<◌, ◌≡◌, Bool, List, [], ◌++◌, map, length, take, drop, replicate}
+use Rattle.std.specs.Prelude.{ℕ, suc, ◌-◌, ◌≤◌, ◌<◌, ◌≡◌, Bool, Result, Ok, Err, List, [], ◌++◌, map, length, take, drop, replicate}
 use Rattle.std.proofs.Math.Decide.{dec_lt}
 use Rattle.std.proofs.Common.{arith, sym, ap, ◌∙◌, subst}
+use Rattle.syntax.specs.Refusals.{refusal}
+use Rattle.syntax.specs.declared.Refusal.{Refusal}
 use Rattle.graph.specs.Graph.{Graph, needs, Entered}
 use Rattle.graph.proofs.Laws.Order.{entered_unique}
 use Rattle.links.specs.Pair.{pair_graph, pair_slots}
@@ -11,10 +13,10 @@ use Rattle.matching.specs.Matching.{Concluded, Counted, Match, table_words, Matc
 use Rattle.admission.specs.Laws.Refusing.{refuses_one, refused_not_admitted}
 use Rattle.matching.proofs.Laws.Concluding.{flags_same, worth_unique}
 use Rattle.matching.specs.declared.Outcome.{Outcome}
-use Rattle.matching.specs.declared.Outcome.TheVariants.{Refused, Unfinished}
+use Rattle.matching.specs.declared.Outcome.TheVariants.{Unfinished}
 
 -- the same answer and the same memory after it
-pub record Same (table list : List ℕ) (r : Outcome) (table' list' : List ℕ) (r' : Outcome) : Type 0 where
+pub record Same {A : Type 0} (table list : List ℕ) (r : A) (table' list' : List ℕ) (r' : A) : Type 0 where
   pub tables : table ≡ table'
   pub lists : list ≡ list'
   pub answers : r ≡ r'
@@ -73,14 +75,14 @@ module _ (v b w c : List ℕ) (budget : ℕ) where
       (subst (λ (f : ℕ → Bool). length n.order ≤ budget → Concluded (needs G f) v b w c (length n.order) n.count r') e n.finished) m.unfinished n.unfinished
 
 -- IN ANY MEMORY
-pub matched_one : {v b w c : List ℕ} {budget : ℕ} {table list table₁ list₁ table₂ list₂ : List ℕ} {r s : Outcome} → Matched v b w c budget table list table₁ list₁ r → Matched v b w c budget table list table₂ list₂ s → Same table₁ list₁ r table₂ list₂ s
-matched_one (refused x r t l) (refused x' r' t' l') = record { tables = t ∙ sym t'; lists = l ∙ sym l'; answers = r ∙ ap (λ (k : ℕ). Refused k 0) (refuses_one x x') ∙ sym r' }
-matched_one (refused x r t l) (matches a values entries m t' l') = absurd (refused_not_admitted x a)
-matched_one (matches a values entries m t l) (refused x r' t' l') = absurd (refused_not_admitted x a)
-matched_one {table = table} {list} (matches a values entries m t l) (matches a' values' entries' m' t' l') =
+pub matched_one : {v b w c : List ℕ} {budget : ℕ} {table list table₁ list₁ table₂ list₂ : List ℕ} {r s : Result Outcome Refusal} → Matched v b w c budget table list table₁ list₁ r → Matched v b w c budget table list table₂ list₂ s → Same table₁ list₁ r table₂ list₂ s
+matched_one (refused x r t l) (refused x' r' t' l') = record { tables = t ∙ sym t'; lists = l ∙ sym l'; answers = r ∙ ap (λ (k : ℕ). Err (refusal k 0)) (refuses_one x x') ∙ sym r' }
+matched_one (refused x r t l) (matches a e values entries m t' l') = absurd (refused_not_admitted x a)
+matched_one (matches a e values entries m t l) (refused x r' t' l') = absurd (refused_not_admitted x a)
+matched_one {table = table} {list} (matches a e values entries m t l) (matches a' e' values' entries' m' t' l') =
     let x = match_one _ _ _ _ _ m m' in
     record {
       tables = t ∙ ap (λ (y : List ℕ). y ++ drop table_words table) x.tables ∙ sym t';
       lists = l ∙ ap (λ (y : List ℕ). y ++ drop pair_slots list) x.lists ∙ sym l';
-      answers = x.answers;
+      answers = e ∙ ap (λ (o : Outcome). Ok o) x.answers ∙ sym e';
     }
