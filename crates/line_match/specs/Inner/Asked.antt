@@ -2,13 +2,10 @@
 use Rattle.std.specs.Prelude.{ℕ, ◌≡◌, List, length}
 use Rattle.ad.specs.Layout.{ad_words, ad_bytes_room}
 use Rattle.links.specs.Pair.{pair_slots}
-use Rattle.links.specs.Inner.Asked.{Measured}
-use Rattle.links.specs.declared.Counts.{Counts}
 use Rattle.matching.specs.Matching.{table_words}
 
--- a well-formed job with its counts, and exactly the room of an ad and of a match
-pub record LineRoom (v : List ℕ) (counts : Counts) (w c table list : List ℕ) : Type 0 where
-  pub job : Measured v counts.nodes counts.definitions
+-- exactly the room of an ad and of a match
+pub record LineRoom (w c table list : List ℕ) : Type 0 where
   pub words : length w ≡ ad_words
   pub bytes : length c ≡ ad_bytes_room
   pub values : length table ≡ table_words
