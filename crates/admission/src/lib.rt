@@ -34,7 +34,7 @@ pub fn too_small(
 }
 
 // The well-formed ad in the front of some memory, with the counts that the check found.
-fn formed<'a>(words: &'a [u64], bytes: &'a [u8]) -> Result<FormedAd<'a>, Reason>
+pub fn formed<'a>(words: &'a [u64], bytes: &'a [u8]) -> Result<FormedAd<'a>, Reason>
     requires { (ad_words ≤ length words.now) × (ad_bytes_room ≤ length bytes.now) }
     ensures { Forming words.now bytes.now result }
 {

@@ -4,15 +4,16 @@
 ghost use Rattle.std.specs.Prelude.{◌≡◌};
 ghost use Rattle.c_roster.specs.Roster.{roster_numbers, RosterReported};
 
-use roster::Answer;
+use syntax::Refusal;
+use tally::Report;
 
 // What the roster answers, as six numbers.
-fn roster_numbers(answer: Answer) -> [u64; 6]
+fn roster_numbers(answer: Result<Report, Refusal>) -> [u64; 6]
     ensures { result ≡ roster_numbers answer }
 {
     match answer {
-        Answer::Refused(k, _) => [k as u64, 0, 0, 0, 0, 0],
-        Answer::Done(r) => [
+        Err(refusal) => [u64::from(refusal.reason.number()), 0, 0, 0, 0, 0],
+        Ok(r) => [
             0,
             r.lines as u64,
             r.matched as u64,

@@ -11,15 +11,13 @@ use Rattle.text.specs.Laws.Booleans.{neither}
 use Rattle.lines.specs.Lines.{lines_of}
 use Rattle.ad.specs.Layout.{ad_words, ad_bytes_room}
 use Rattle.links.specs.Pair.{pair_slots}
-use Rattle.links.specs.Inner.Asked.{Measured}
-use Rattle.links.specs.declared.Counts.{Counts}
 use Rattle.admission.specs.Admission.{small_pair, Well}
 use Rattle.admission.specs.Laws.Rooms.{rooms}
 use Rattle.matching.specs.Matching.{table_words}
 use Rattle.tally.specs.declared.Report.{Report}
-use Rattle.roster.specs.declared.Answer.TheVariants.{Done}
-use Rattle.roster.specs.Roster.{max_lines, rows_words, RosterRefuses, no_room, bad_job, long, Matches}
-use Rattle.roster.specs.Inner.Progress.{Tested, Lent, Listed, Cleared}
+use Rattle.std.proofs.Common.{Ok}
+use Rattle.roster.specs.Roster.{max_lines, rows_words, small_roster, RosterRefuses, no_room, bad_job, long, Matches}
+use Rattle.roster.specs.Inner.Progress.{Lent, Listed, Cleared}
 
 -- every room is large enough
 pub record Fits (v b w c table list rows : List ℕ) : Type 0 where
@@ -31,11 +29,11 @@ pub record Fits (v b w c table list rows : List ℕ) : Type 0 where
   pub entries : pair_slots ≤ length list
   pub outcomes : rows_words ≤ length rows
 
-module _ {v b w c table list rows : List ℕ} {r : Bool} (t : Tested v b w c table list rows r) where
+module _ {v b w c table list rows : List ℕ} {r : Bool} (t : r ≡ small_roster v b w c table list rows) where
   pub fits : r ≡ false → Fits v b w c table list rows
   fits e =
       let p = small_pair v b w c (length table) table_words (length list) in
-      let h = neither p (ltb (length rows) rows_words) (sym t.told ∙ e) in
+      let h = neither p (ltb (length rows) rows_words) (sym t ∙ e) in
       let k = rooms v b w c (length table) table_words (length list) h.0 in
       record {
         job_words = k.first_words;
@@ -48,25 +46,25 @@ module _ {v b w c table list rows : List ℕ} {r : Bool} (t : Tested v b w c tab
       }
 
   pub refused_small : {s : List ℕ} → r ≡ true → RosterRefuses v b s w c table list rows 1
-  refused_small e = no_room (sym t.told ∙ e)
+  refused_small e = no_room (sym t ∙ e)
 
   pub refused_job : {s : List ℕ} → r ≡ false → ¬ (Well v b) → RosterRefuses v b s w c table list rows 10
-  refused_job e h = bad_job (sym t.told ∙ e) h
+  refused_job e h = bad_job (sym t ∙ e) h
 
   pub refused_long : (s : List ℕ) {n : ℕ} → r ≡ false → Well v b → n ≡ length (lines_of s) → max_lines < n → RosterRefuses v b s w c table list rows 16
-  refused_long s e h k l = long (sym t.told ∙ e) h (rw k at l)
+  refused_long s e h k l = long (sym t ∙ e) h (rw k at l)
 
   -- what is left where nothing is refused: the front parts, and what was behind them
   pub answered : {s w' c' table' list' rows' : List ℕ} {q : Report} → r ≡ false → Well v b → length (lines_of s) ≤ max_lines →
       Listed (take ad_words v) (take ad_bytes_room b) s rows' q → Cleared w' c' table' list' →
-      Matches v b s w c table list rows (w' ++ drop ad_words w) (c' ++ drop ad_bytes_room c) (table' ++ drop table_words table) (list' ++ drop pair_slots list) (rows' ++ drop rows_words rows) (Done q)
+      Matches v b s w c table list rows (w' ++ drop ad_words w) (c' ++ drop ad_bytes_room c) (table' ++ drop table_words table) (list' ++ drop pair_slots list) (rows' ++ drop rows_words rows) (Ok q)
   answered e h few l z = record {
-    roomy = sym t.told ∙ e;
+    roomy = sym t ∙ e;
     job_well = h;
     few_lines = few;
     outcomes = l.outcomes;
     gives = l.gives;
-    answers = ap Done l.report_is;
+    answers = ap Ok l.report_is;
     rows_are = ap (λ (x : List ℕ). x ++ drop rows_words rows) l.rows_are;
     zeroed = record {
       words = ap (λ (x : List ℕ). x ++ drop ad_words w) z.words;
@@ -81,11 +79,10 @@ pub front : (n : ℕ) (l : List ℕ) → n ≤ length l → n ≡ length (take n
 front n l h = sym (length-take-le n l h)
 
 -- the front parts are exactly the rooms
-pub lent : {v b s w c table list rows : List ℕ} {counts : Counts} → Fits v b w c table list rows → Measured (take ad_words v) counts.nodes counts.definitions →
-    length (lines_of s) ≤ max_lines → Lent (take ad_words v) counts s (take ad_words w) (take ad_bytes_room c) (take table_words table) (take pair_slots list) (take rows_words rows)
-lent {w = w} {c} {table} {list} {rows} x m h = record {
+pub lent : {v b s w c table list rows : List ℕ} → Fits v b w c table list rows →
+    length (lines_of s) ≤ max_lines → Lent s (take ad_words w) (take ad_bytes_room c) (take table_words table) (take pair_slots list) (take rows_words rows)
+lent {w = w} {c} {table} {list} {rows} x h = record {
   room = record {
-    job = m;
     words = length-take-le ad_words w x.words;
     bytes = length-take-le ad_bytes_room c x.bytes;
     values = length-take-le table_words table x.values;

@@ -1,5 +1,5 @@
 -- One line more. Assumes nothing.
-use Rattle.std.specs.Prelude.{◌≡◌, refl, List, [], ◌∷◌, ◌++◌, ℕ, ◌+◌, ◌-◌, ◌*◌, ◌≤◌, ◌<◌, min, length, take, drop, replicate}
+use Rattle.std.specs.Prelude.{Result, ◌≡◌, refl, List, [], ◌∷◌, ◌++◌, ℕ, ◌+◌, ◌-◌, ◌*◌, ◌≤◌, ◌<◌, min, length, take, drop, replicate}
 use Rattle.std.proofs.Common.{sym, ap, ◌∙◌, subst, append_assoc, append-nil, arith, length-append, drop_of_length-le}
 use Prim.Native.Char.{code}
 use Rattle.std.proofs.lemmas.List.Edits.{sets}
@@ -7,6 +7,7 @@ use Rattle.lines.specs.Lines.{lines_of, up_to}
 use Rattle.lines.proofs.Laws.Cutting.{found_inside, behind_later, lines_from}
 use Rattle.ad.specs.Layout.{padded}
 use Rattle.matching.specs.declared.Outcome.{Outcome}
+use Rattle.syntax.specs.declared.Refusal.{Refusal}
 use Rattle.line_match.specs.LineMatch.{LineLeaves, LineGives}
 use Rattle.tally.specs.declared.Report.{Report}
 use Rattle.tally.specs.Tally.{row_of, rows_of}
@@ -17,15 +18,15 @@ use Rattle.roster.specs.Roster.{max_lines, rows_words, Give, none, next}
 use Rattle.roster.specs.Inner.Progress.{Listed, Reached}
 
 -- what a line leaves, it gives
-pub line_gives : {v b line w c table list : List ℕ} {r : Outcome} → LineLeaves v b line w c table list r → LineGives v b line r
+pub line_gives : {v b line w c table list : List ℕ} {r : Result Outcome Refusal} → LineLeaves v b line w c table list r → LineGives v b line r
 line_gives {w = w} {c} {table} {list} x = record { words = w; bytes = c; values = table; entries = list; leaves = x }
 
 -- an outcome for each line
-pub give_length : {v b : List ℕ} {ls : List (List ℕ)} {os : List Outcome} → Give v b ls os → length ls ≡ length os
+pub give_length : {v b : List ℕ} {ls : List (List ℕ)} {os : List (Result Outcome Refusal)} → Give v b ls os → length ls ≡ length os
 give_length none = refl
 give_length (next g gs) = let h = give_length gs in omega arith
 
-give_more : {v b : List ℕ} {ls : List (List ℕ)} {os : List Outcome} {l : List ℕ} {o : Outcome} → Give v b ls os → LineGives v b l o → Give v b (ls ++ l ∷ []) (os ++ o ∷ [])
+give_more : {v b : List ℕ} {ls : List (List ℕ)} {os : List (Result Outcome Refusal)} {l : List ℕ} {o : Result Outcome Refusal} → Give v b ls os → LineGives v b l o → Give v b (ls ++ l ∷ []) (os ++ o ∷ [])
 give_more none g = next g none
 give_more (next f fs) g = next f (give_more fs g)
 
@@ -61,7 +62,7 @@ room_left {s = s} {at = at} x few h =
     omega (arith, length-append x.passed (take (end - at) (drop at s) ∷ lines_of (drop (min (end + 1) (length s)) s)), give_length x.gives)
 
 -- ONE LINE MORE
-pub reached_more : {v b s rows rows' : List ℕ} {at end next : ℕ} {r r' : Report} {o : Outcome} (x : Reached v b s at rows r) → length (lines_of s) ≤ max_lines → at < length s →
+pub reached_more : {v b s rows rows' : List ℕ} {at end next : ℕ} {r r' : Report} {o : Result Outcome Refusal} (x : Reached v b s at rows r) → length (lines_of s) ≤ max_lines → at < length s →
     end ≡ at + length (up_to (code "\n") (drop at s)) → next ≡ min (end + 1) (length s) → LineGives v b (take (end - at) (drop at s)) o →
     rows' ≡ sets rows (8 * r.lines) (row_of o) → Plus r o r' → Reached v b s next rows' r'
 reached_more {v} {b} {s} {rows} {rows'} {at} {end} {next} {r} {r'} {o} x few h e f g w p = record {

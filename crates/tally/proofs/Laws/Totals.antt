@@ -1,18 +1,19 @@
 -- One outcome more in a report. Assumes nothing.
-use Rattle.std.specs.Prelude.{ℕ, ◌+◌, ◌≤◌, ◌<◌, ◌≡◌, refl, Bool, true, false, cond, List, [], ◌∷◌, ◌++◌, length}
+use Rattle.std.specs.Prelude.{ℕ, Result, Ok, Err, ◌+◌, ◌≤◌, ◌<◌, ◌≡◌, refl, Bool, true, false, cond, List, [], ◌∷◌, ◌++◌, length}
 use Rattle.std.proofs.Common.{arith, sym, ap, ◌∙◌, length-append}
 use Rattle.matching.specs.declared.Outcome.{Outcome}
+use Rattle.syntax.specs.declared.Refusal.{Refusal}
 use Rattle.tally.specs.declared.Report.{Report}
 use Rattle.tally.specs.Tally.{is_matched, is_unmatched, is_refused, job_rank, total, many, report_of}
 use Rattle.tally.specs.Inner.Counting.{Few, Plus, Tallied}
 
-pub total_more : (f : Outcome → ℕ) (os : List Outcome) (o : Outcome) → total f (os ++ o ∷ []) ≡ total f os + f o
+pub total_more : (f : Result Outcome Refusal → ℕ) (os : List (Result Outcome Refusal)) (o : Result Outcome Refusal) → total f (os ++ o ∷ []) ≡ total f os + f o
 unfolding total
 total_more f [] o = omega arith
 total_more f (x ∷ os) o = let h = total_more f os o in omega arith
 
 -- no more are so than there are
-pub many_few : (f : Outcome → Bool) (os : List Outcome) → many f os ≤ length os
+pub many_few : (f : Result Outcome Refusal → Bool) (os : List (Result Outcome Refusal)) → many f os ≤ length os
 unfolding total
 many_few f [] = omega arith
 many_few f (o ∷ os) = go (f o) (many_few f os)
@@ -21,7 +22,7 @@ many_few f (o ∷ os) = go (f o) (many_few f os)
     go true h = omega arith
     go false h = omega arith
 
-module _ {os : List Outcome} {r : Report} where
+module _ {os : List (Result Outcome Refusal)} {r : Report} where
   pub tallied_few : Tallied os r → length os < 256 → Few r
   tallied_few t h = record {
     few_lines = let e = t.lines_are in omega arith;
@@ -31,7 +32,7 @@ module _ {os : List Outcome} {r : Report} where
     small_sum = rw t.lines_are t.sum_small;
   }
 
-  pub tallied_more : {o : Outcome} {q : Report} → Tallied os r → Plus r o q → Tallied (os ++ o ∷ []) q
+  pub tallied_more : {o : Result Outcome Refusal} {q : Report} → Tallied os r → Plus r o q → Tallied (os ++ o ∷ []) q
   tallied_more {o} {q} t p = record {
     lines_are = let e = t.lines_are in let k = p.one_line in omega (arith, length-append os (o ∷ []));
     matched_are = p.one_matched ∙ ap (λ (n : ℕ). n + cond (is_matched o) 1 0) t.matched_are ∙ sym (total_more (λ x. cond (is_matched x) 1 0) os o);

@@ -1,6 +1,7 @@
 -- What inner functions are given and ensure. Assumes nothing.
-use Rattle.std.specs.Prelude.{◌+◌, ◌*◌, ◌^◌, ◌≤◌, ◌≡◌, cond, List, length}
+use Rattle.std.specs.Prelude.{Result, ◌+◌, ◌*◌, ◌^◌, ◌≤◌, ◌≡◌, cond, List, length}
 use Rattle.matching.specs.declared.Outcome.{Outcome}
+use Rattle.syntax.specs.declared.Refusal.{Refusal}
 use Rattle.tally.specs.declared.Report.{Report}
 use Rattle.tally.specs.Tally.{is_matched, is_unmatched, is_refused, job_rank, many, total}
 
@@ -13,7 +14,7 @@ pub record Few (r : Report) : Type 0 where
   pub small_sum : r.rank_sum ≤ r.lines * 2 ^ 32
 
 -- the report q is r with one outcome more
-pub record Plus (r : Report) (o : Outcome) (q : Report) : Type 0 where
+pub record Plus (r : Report) (o : Result Outcome Refusal) (q : Report) : Type 0 where
   pub one_line : q.lines ≡ r.lines + 1
   pub one_matched : q.matched ≡ r.matched + cond (is_matched o) 1 0
   pub one_unmatched : q.unmatched ≡ r.unmatched + cond (is_unmatched o) 1 0
@@ -22,7 +23,7 @@ pub record Plus (r : Report) (o : Outcome) (q : Report) : Type 0 where
   pub sum_grows : q.rank_sum ≤ r.rank_sum + 2 ^ 32
 
 -- the report r of some outcomes, within its bounds
-pub record Tallied (os : List Outcome) (r : Report) : Type 0 where
+pub record Tallied (os : List (Result Outcome Refusal)) (r : Report) : Type 0 where
   pub lines_are : r.lines ≡ length os
   pub matched_are : r.matched ≡ many is_matched os
   pub unmatched_are : r.unmatched ≡ many is_unmatched os
