@@ -5,14 +5,15 @@ ghost use Rattle.std.specs.Prelude.{◌≡◌};
 ghost use Rattle.c_ordering.specs.Ordering.{order_numbers, OrderReported};
 
 use ordering::Order;
+use syntax::Refusal;
 
 // What the order answers, as three numbers.
-fn order_numbers(answer: Order) -> [u64; 3]
+fn order_numbers(answer: Result<Order, Refusal>) -> [u64; 3]
     ensures { result ≡ order_numbers answer }
 {
     match answer {
-        Order::Refused(k, _) => [k as u64, 0, 0],
-        Order::Found(n, l) => [0, n as u64, l as u64],
+        Ok(order) => [0, order.transitions as u64, order.length as u64],
+        Err(refusal) => [u64::from(refusal.reason.number()), 0, 0],
     }
 }
 

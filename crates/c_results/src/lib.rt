@@ -71,7 +71,7 @@ pub fn string<'a>(
     ensures { StringPlaced first.now second.now (not (eqb side 0)) offset length answer.new }
 {
     let n = side_length(first, second, side != 0);
-    let start = positions::least(offset as usize, n);
+    let start = (offset as usize).min(n);
     let part = results::string_bytes(first, second, side != 0, offset, length);
     *answer = [start as u64, part.len() as u64];
 }

@@ -1,6 +1,8 @@
 -- The circular references and the list of two stored ads, whatever is lent. v and b are the words and bytes of the first ad, w and c
 -- those of the second. Assumes nothing.
-use Rattle.std.specs.Prelude.{ℕ, suc, ◌-◌, ◌≤◌, ◌≡◌, List, [], ◌++◌, map, length, get_or, take, drop, replicate}
+use Rattle.std.specs.Prelude.{ℕ, suc, ◌-◌, ◌≤◌, ◌≡◌, Result, Ok, Err, List, [], ◌++◌, map, length, get_or, take, drop, replicate}
+use Rattle.syntax.specs.Refusals.{refusal}
+use Rattle.syntax.specs.declared.Refusal.{Refusal}
 use Rattle.ad.specs.Layout.{ad_words, ad_bytes_room}
 use Rattle.graph.specs.Members.{raised}
 use Rattle.graph.specs.Graph.{Flags, needs, Entered}
@@ -8,7 +10,6 @@ use Rattle.links.specs.Pair.{pair_graph, pair_slots}
 use Rattle.matching.specs.Matching.{Counted}
 use Rattle.admission.specs.Admission.{Refuses, Admits}
 use Rattle.ordering.specs.declared.Order.{Order}
-use Rattle.ordering.specs.declared.Order.TheVariants.{Refused, Found}
 
 -- of two well-formed ads within their rooms: 'it ends with exactly the circular references and the list, its result carrying a count'.
 -- flags and list are what is lent of them after it, and a flag is 1 for a circular reference.
@@ -24,16 +25,13 @@ pub record Orders (v b w c flags list : List ℕ) (count len : ℕ) : Type 0 whe
   pub counted : Counted (pair_graph v b w c) count
 
 -- an answer that tells what such a traversal counted: 'its result carrying a count'
-pub record OrdersBy (v b w c flags list : List ℕ) (r : Order) : Type 0 where
-  pub count : ℕ
-  pub len : ℕ
-  pub answers : r ≡ Found count len
-  pub orders : Orders v b w c flags list count len
+abbrev pub OrdersBy : (v b w c flags list : List ℕ) → Order → Type 0
+OrdersBy v b w c flags list r = Orders v b w c flags list r.transitions r.length
 
 -- THE CONTRACT OF `order_ads`, over any memory, with 2,048 flags and 2,048 entries. It refuses as a match does, with 'all unchanged'; and
 -- 'Memory lent beyond these sizes is never changed.'
-pub data Ordered (v b w c flags list flags' list' : List ℕ) (r : Order) : Type 0 where
-  refused : {k : ℕ} → Refuses v b w c (length flags) pair_slots (length list) k → r ≡ Refused k 0 → flags' ≡ flags → list' ≡ list → Ordered v b w c flags list flags' list' r
-  orders : Admits v b w c (length flags) pair_slots (length list) → (marks entries : List ℕ) →
-      OrdersBy (take ad_words v) (take ad_bytes_room b) (take ad_words w) (take ad_bytes_room c) marks entries r →
+pub data Ordered (v b w c flags list flags' list' : List ℕ) (r : Result Order Refusal) : Type 0 where
+  refused : {k : ℕ} → Refuses v b w c (length flags) pair_slots (length list) k → r ≡ Err (refusal k 0) → flags' ≡ flags → list' ≡ list → Ordered v b w c flags list flags' list' r
+  orders : {o : Order} → Admits v b w c (length flags) pair_slots (length list) → r ≡ Ok o → (marks entries : List ℕ) →
+      OrdersBy (take ad_words v) (take ad_bytes_room b) (take ad_words w) (take ad_bytes_room c) marks entries o →
       flags' ≡ marks ++ drop pair_slots flags → list' ≡ entries ++ drop pair_slots list → Ordered v b w c flags list flags' list' r

@@ -1,46 +1,23 @@
-use mathlib.Core.Path.{refl, sym}
-use Rattle.admission.specs.Laws.Refusing.{refusal_told, admission_told}
-use Rattle.admission.specs.Laws.Rooms.{fit, first_words_front, first_bytes_front, second_words_front, second_bytes_front, values_front, list_front}
+use Rattle.std.proofs.Common.{Err, refl, sym, ap}
+use Rattle.syntax.proofs.Laws.Numbered.{refusal_numbered}
+use Rattle.admission.specs.Laws.Rooms.{values_front, list_front}
 use Rattle.ordering.specs.Ordering.{refused, orders}
 use Rattle.ordering.proofs.order_ads.Goals as goal
 
+pub slice_bounds-order_formed-end-in-Ok : goal.slice_bounds-order_formed-end-in-Ok
+slice_bounds-order_formed-end-in-Ok c = values_front c.in-Ok.ensures c.args.flags.now refl
+
+pub slice_bounds-order_formed-end-in-Ok-3 : goal.slice_bounds-order_formed-end-in-Ok-3
+slice_bounds-order_formed-end-in-Ok-3 c = list_front c.in-Ok.ensures c.args.list.now refl
+
 pub order_formed-requires : goal.order_formed-requires
-order_formed-requires c = let a = admission_told c.admit-admitted.ensures c.in-Admitted.is in (
-  a.first_measured,
-  a.second_measured,
-  sym (values_front a c.args.flags.now refl),
-  sym (list_front a c.args.list.now refl),
-)
+order_formed-requires c = (sym (values_front c.in-Ok.ensures c.args.flags.now refl), sym (list_front c.in-Ok.ensures c.args.list.now refl))
 
-pub returns-in-Refused : goal.returns-in-Refused
-returns-in-Refused c = refused (refusal_told c.admit-admitted.ensures c.in-Refused.is) refl refl refl
+pub returns-in-Ok : goal.returns-in-Ok
+returns-in-Ok c =
+    let a = c.in-Ok.ensures in
+    orders a.admits refl _ _
+    (rw (a.first_fronts.words_are, a.first_fronts.bytes_are, a.second_fronts.words_are, a.second_fronts.bytes_are) at c.order_formed.ensures) refl refl
 
-pub returns-in-Admitted : goal.returns-in-Admitted
-returns-in-Admitted c = orders (admission_told c.admit-admitted.ensures c.in-Admitted.is).admits _ _
-    c.order_formed.ensures refl refl
-
-pub slice_bounds-order_formed-end : goal.slice_bounds-order_formed-end
-slice_bounds-order_formed-end c = first_words_front (admission_told c.admit-admitted.ensures c.in-Admitted.is)
-
-pub slice_bounds-order_formed-end-in-Admitted : goal.slice_bounds-order_formed-end-in-Admitted
-slice_bounds-order_formed-end-in-Admitted c = first_bytes_front (admission_told c.admit-admitted.ensures c.in-Admitted.is)
-
-pub slice_bounds-order_formed-end-in-Admitted-2 : goal.slice_bounds-order_formed-end-in-Admitted-2
-slice_bounds-order_formed-end-in-Admitted-2 c = second_words_front (admission_told c.admit-admitted.ensures c.in-Admitted.is)
-
-pub slice_bounds-order_formed-end-in-Admitted-3 : goal.slice_bounds-order_formed-end-in-Admitted-3
-slice_bounds-order_formed-end-in-Admitted-3 c = second_bytes_front (admission_told c.admit-admitted.ensures c.in-Admitted.is)
-
-pub slice_bounds-order_formed-end-in-Admitted-4 : goal.slice_bounds-order_formed-end-in-Admitted-4
-slice_bounds-order_formed-end-in-Admitted-4 c = (fit (admission_told c.admit-admitted.ensures c.in-Admitted.is)).values
-
-pub slice_bounds-order_formed-end-in-Admitted-5 : goal.slice_bounds-order_formed-end-in-Admitted-5
-slice_bounds-order_formed-end-in-Admitted-5 c = values_front (admission_told c.admit-admitted.ensures c.in-Admitted.is)
-    c.args.flags.now refl
-
-pub slice_bounds-order_formed-end-in-Admitted-6 : goal.slice_bounds-order_formed-end-in-Admitted-6
-slice_bounds-order_formed-end-in-Admitted-6 c = (fit (admission_told c.admit-admitted.ensures c.in-Admitted.is)).entries_fit
-
-pub slice_bounds-order_formed-end-in-Admitted-7 : goal.slice_bounds-order_formed-end-in-Admitted-7
-slice_bounds-order_formed-end-in-Admitted-7 c = list_front (admission_told c.admit-admitted.ensures c.in-Admitted.is)
-    c.args.list.now refl
+pub returns-in-Err : goal.returns-in-Err
+returns-in-Err c = refused c.in-Err.ensures (ap Err (refusal_numbered _)) refl refl
