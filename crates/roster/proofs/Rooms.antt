@@ -16,8 +16,8 @@ use Rattle.admission.specs.Laws.Rooms.{rooms}
 use Rattle.matching.specs.Matching.{table_words}
 use Rattle.tally.specs.declared.Report.{Report}
 use Rattle.std.proofs.Common.{Ok}
-use Rattle.roster.specs.Roster.{max_lines, rows_words, small_roster, RosterRefuses, no_room, bad_job, long, Matches}
-use Rattle.roster.specs.Inner.Progress.{Lent, Listed, Cleared}
+use Rattle.roster.specs.Roster.{max_lines, rows_words, RosterRefuses, no_room, bad_job, long, Matches}
+use Rattle.roster.specs.Inner.Progress.{Tested, Lent, Listed, Cleared}
 
 -- every room is large enough
 pub record Fits (v b w c table list rows : List ℕ) : Type 0 where
@@ -29,11 +29,11 @@ pub record Fits (v b w c table list rows : List ℕ) : Type 0 where
   pub entries : pair_slots ≤ length list
   pub outcomes : rows_words ≤ length rows
 
-module _ {v b w c table list rows : List ℕ} {r : Bool} (t : r ≡ small_roster v b w c table list rows) where
+module _ {v b w c table list rows : List ℕ} {r : Bool} (t : Tested v b w c table list rows r) where
   pub fits : r ≡ false → Fits v b w c table list rows
   fits e =
       let p = small_pair v b w c (length table) table_words (length list) in
-      let h = neither p (ltb (length rows) rows_words) (sym t ∙ e) in
+      let h = neither p (ltb (length rows) rows_words) (sym t.told ∙ e) in
       let k = rooms v b w c (length table) table_words (length list) h.0 in
       record {
         job_words = k.first_words;
@@ -46,20 +46,20 @@ module _ {v b w c table list rows : List ℕ} {r : Bool} (t : r ≡ small_roster
       }
 
   pub refused_small : {s : List ℕ} → r ≡ true → RosterRefuses v b s w c table list rows 1
-  refused_small e = no_room (sym t ∙ e)
+  refused_small e = no_room (sym t.told ∙ e)
 
   pub refused_job : {s : List ℕ} → r ≡ false → ¬ (Well v b) → RosterRefuses v b s w c table list rows 10
-  refused_job e h = bad_job (sym t ∙ e) h
+  refused_job e h = bad_job (sym t.told ∙ e) h
 
   pub refused_long : (s : List ℕ) {n : ℕ} → r ≡ false → Well v b → n ≡ length (lines_of s) → max_lines < n → RosterRefuses v b s w c table list rows 16
-  refused_long s e h k l = long (sym t ∙ e) h (rw k at l)
+  refused_long s e h k l = long (sym t.told ∙ e) h (rw k at l)
 
   -- what is left where nothing is refused: the front parts, and what was behind them
   pub answered : {s w' c' table' list' rows' : List ℕ} {q : Report} → r ≡ false → Well v b → length (lines_of s) ≤ max_lines →
       Listed (take ad_words v) (take ad_bytes_room b) s rows' q → Cleared w' c' table' list' →
       Matches v b s w c table list rows (w' ++ drop ad_words w) (c' ++ drop ad_bytes_room c) (table' ++ drop table_words table) (list' ++ drop pair_slots list) (rows' ++ drop rows_words rows) (Ok q)
   answered e h few l z = record {
-    roomy = sym t ∙ e;
+    roomy = sym t.told ∙ e;
     job_well = h;
     few_lines = few;
     outcomes = l.outcomes;

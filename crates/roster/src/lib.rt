@@ -1,9 +1,8 @@
 // A job against a roster: a line for each bench, its outcome, and a report.
 #![tactic(auto)]
 
-ghost use Rattle.std.specs.Prelude.{◌≡◌};
-ghost use Rattle.roster.specs.Roster.{small_roster, Rostered};
-ghost use Rattle.roster.specs.Inner.Progress.{Lent, Asked, Listed, Cleared};
+ghost use Rattle.roster.specs.Roster.{Rostered};
+ghost use Rattle.roster.specs.Inner.Progress.{Tested, Lent, Asked, Listed, Cleared};
 
 use links::FormedAd;
 use syntax::{Reason, Refusal};
@@ -25,7 +24,7 @@ fn too_small(
     list: &[u64],
     outcomes: &[u64],
 ) -> bool
-    ensures { result ≡ small_roster job_words.now job_bytes.now words.now bytes.now table.now list.now outcomes.now }
+    ensures { Tested job_words.now job_bytes.now words.now bytes.now table.now list.now outcomes.now result }
 {
     admission::too_small(
         job_words,

@@ -1,15 +1,20 @@
 use native.Mathlib.Omega.{arith}
 use Prim.Native.Nat.{ℕ, ◌*◌}
-use mathlib.Core.Path.{sym, ap, ◌∙◌}
+use mathlib.Core.Path.{◌≡◌, sym, ap, ◌∙◌}
 use lib.ListN.{length, length-replicate}
 use Rattle.roster.proofs.Laws.Lines.{line_gives, reached_none, reached_more, reached_all}
 use Rattle.roster.proofs.Turning.{ends, goes_on, row_fits, report_fits, same_rooms, same_rows}
+use Rattle.tally.specs.declared.Report.{Report}
 use Rattle.roster.proofs.match_lines.Goals as goal
+
+-- a report of nothing
+empty : {r : Report} → (r.lines ≡ 0) × ((r.matched ≡ 0) × ((r.unmatched ≡ 0) × ((r.refused ≡ 0) × (r.rank_sum ≡ 0)))) → r ≡ record { lines = 0; matched = 0; unmatched = 0; refused = 0; rank_sum = 0 }
+empty e = λ i. record { lines = e.0 i; matched = e.1.0 i; unmatched = e.1.1.0 i; refused = e.1.1.1.0 i; rank_sum = e.1.1.1.1 i }
 
 pub loop-at-init : goal.loop-at-init
 loop-at-init c = record {
   room = c.requires.room;
-  reached = reached_none _ _ _ _ c.requires.rows_clear;
+  reached = rw (empty {r = c.default-report.result} c.default-report.ensures) (reached_none _ _ _ _ c.requires.rows_clear);
   rows_room = ap length c.requires.rows_clear ∙ length-replicate {A = ℕ} 2048 0;
 }
 

@@ -1,5 +1,5 @@
 -- What inner functions are given and ensure. Assumes nothing.
-use Rattle.std.specs.Prelude.{ℕ, Result, ◌≤◌, ◌≡◌, List, ◌++◌, length, drop, replicate}
+use Rattle.std.specs.Prelude.{ℕ, Result, ◌≤◌, ◌≡◌, Bool, List, ◌++◌, length, drop, replicate}
 use Rattle.lines.specs.Lines.{lines_of}
 use Rattle.ad.specs.Layout.{ad_words, ad_bytes_room, padded}
 use Rattle.links.specs.Pair.{pair_slots}
@@ -10,7 +10,11 @@ use Rattle.line_match.specs.Inner.Asked.{LineRoom}
 use Rattle.tally.specs.declared.Report.{Report}
 use Rattle.tally.specs.Tally.{rows_of, report_of}
 use Rattle.tally.specs.Inner.Counting.{Tallied}
-use Rattle.roster.specs.Roster.{max_lines, rows_words, Give}
+use Rattle.roster.specs.Roster.{max_lines, rows_words, Give, small_roster}
+
+-- whether some room is too small
+pub record Tested (v b w c table list rows : List ℕ) (r : Bool) : Type 0 where
+  pub told : r ≡ small_roster v b w c table list rows
 
 -- few enough lines, and exactly the rooms
 pub record Lent (s w c table list rows : List ℕ) : Type 0 where
