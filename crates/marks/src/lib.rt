@@ -16,6 +16,18 @@ pub struct Position {
     pub len: usize,
 }
 
+impl Position {
+    // The same length of the list, at a place.
+    pub fn at(self, place: Place) -> Self
+        ensures { result ≡ record { place = place; len = self.len } }
+    {
+        Position {
+            place,
+            len: self.len,
+        }
+    }
+}
+
 const PER_NODE: usize = 6;
 
 const SLOTS: usize = 2048;

@@ -5,7 +5,7 @@ ghost use Rattle.std.specs.Prelude.{◌≡◌, List, ℕ, ◌≤◌, ◌<◌, le
 ghost use Rattle.graph.specs.Graph.{Graph};
 ghost use Rattle.graph.specs.Transition.{transition};
 ghost use Rattle.graph.specs.declared.Place.TheVariants.{Resolving, Starting, Searching, Closing, Between, Inside};
-ghost use Rattle.links.specs.Graphs.{graph_of, graph_of_sides};
+ghost use Rattle.links.specs.Graphs.{graph_of};
 ghost use Rattle.marks.specs.Inner.Memory.{view, Flagged, Roomy, Grows, marks_room, mark_words};
 ghost use Rattle.transitions.specs.Inner.Asked.{PlaceFits, FlaggedFrom};
 
@@ -68,7 +68,7 @@ fn between(roots: &[usize], k: usize, marks: &mut [u16]) -> Place
 
 // A transition of list search k at the node x.
 fn inside(
-    sides: Sides<'_>,
+    ads: AdPair<'_>,
     k: usize,
     x: usize,
     len: usize,
@@ -79,9 +79,13 @@ fn inside(
 ) -> Position
     requires place { (x < marks_room) × (k < 4) }
     requires room { Roomy target.now marks.old flag.now list.old × (len < length list.old) }
-    ensures by_index { view result.place result.len target.now marks.new flag.now list.new ≡ transition (graph_of_sides sides.entry) (view (Inside k x) len target.now marks.old flag.now list.old) }
+    ensures by_index { view result.place result.len target.now marks.new flag.now list.new ≡ transition (graph_of ads.entry) (view (Inside k x) len target.now marks.old flag.now list.old) }
     ensures room { Grows len result.len list.old list.new }
 {
+    let sides = Sides {
+        first: ads.first.ad,
+        second: ads.second.ad,
+    };
     let i = marks::read(marks, x, Mark::Followed);
     if i < sides.need_count(target, flag, x) {
         let y = sides.led_to(target, x, i);
@@ -110,16 +114,9 @@ pub fn transition(
     ensures flags { FlaggedFrom s.place flag.old flag.new }
 {
     let ads = pair.ads;
-    let len = s.len;
     match s.place {
-        Place::Resolving(i) => Position {
-            place: resolving(pair, i, target),
-            len,
-        },
-        Place::Starting(k) => Position {
-            place: starting(ads, k, marks),
-            len,
-        },
+        Place::Resolving(i) => s.at(resolving(pair, i, target)),
+        Place::Starting(k) => s.at(starting(ads, k, marks)),
         Place::Searching(k, x, top, high, low) => {
             let search = Search {
                 k,
@@ -128,25 +125,12 @@ pub fn transition(
                 high,
                 low,
             };
-            Position {
-                place: searching(ads, search, target, marks, flag),
-                len,
-            }
+            s.at(searching(ads, search, target, marks, flag))
         }
-        Place::Closing(k, x, top, high) => Position {
-            place: closing::close(k, ads.size(), x, top, high, marks),
-            len,
-        },
-        Place::Between(k) => Position {
-            place: between(roots, k, marks),
-            len,
-        },
-        Place::Inside(k, x) => {
-            let sides = Sides {
-                first: ads.first.ad,
-                second: ads.second.ad,
-            };
-            inside(sides, k, x, len, target, marks, flag, list)
+        Place::Closing(k, x, top, high) => {
+            s.at(closing::close(k, ads.size(), x, top, high, marks))
         }
+        Place::Between(k) => s.at(between(roots, k, marks)),
+        Place::Inside(k, x) => inside(ads, k, x, s.len, target, marks, flag, list),
     }
 }

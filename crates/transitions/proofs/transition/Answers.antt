@@ -47,4 +47,4 @@ inside-requires-clause-place c =
 
 pub returns-in-Closing-clause-list_after : goal.returns-in-Closing-clause-list_after
 returns-in-Closing-clause-list_after c =
-    rw c.in-Closing.is (c.close.ensures (graph_of c.args.pair.ads) c.args.s.len _ _ _ (record { size_is = c.size.ensures; slots_are = slots_are c.args.pair.ads }))
+    rw (c.at-in-Closing.ensures, c.in-Closing.is) (c.close.ensures (graph_of c.args.pair.ads) c.args.s.len _ _ _ (record { size_is = c.size.ensures; slots_are = slots_are c.args.pair.ads }))
