@@ -1,9 +1,12 @@
 // A node as it is evaluated: what it is, and what its rule makes of the values of its needs.
 #![tactic(auto)]
 
-ghost use Rattle.std.specs.Prelude.{◌≡◌};
+ghost use Rattle.std.specs.Prelude.{◌≡◌, ℕ};
+ghost use Rattle.ad.specs.Layout.{code_of};
+ghost use Rattle.ad.specs.Stored.{kind_of};
 ghost use Rattle.nodes.specs.Nodes.{constant_of, node_of, applied};
 
+use ad::Kind;
 use syntax::{Binary, Unary};
 use values::Value;
 
@@ -17,31 +20,41 @@ pub enum Node {
     Conditional,
 }
 
-fn constant_of(second: bool, kind: u64, a: u64, b: u64) -> Value
-    ensures { result ≡ constant_of second kind a b }
+fn constant_of(second: bool, kind: Kind, a: u64, b: u64) -> Value
+    ensures { result ≡ constant_of second (code_of kind) a b }
 {
     match kind {
-        2 => Value::Error,
-        3 => Value::Boolean(a != 0),
-        4 => Value::Integer((a % 4294967296) as u32),
-        5 => Value::Real(reals::literal(a, b)),
-        6 => Value::String(second, (a % 65536) as u16, (b % 65536) as u16),
+        Kind::Error => Value::Error,
+        Kind::Boolean => Value::Boolean(a != 0),
+        Kind::Integer => Value::Integer((a % 4294967296) as u32),
+        Kind::Real => Value::Real(reals::literal(a, b)),
+        Kind::String => Value::String(second, (a % 65536) as u16, (b % 65536) as u16),
         _ => Value::Undefined,
     }
 }
 
 // The node of any numbers: its kind, and its first two operands or data; `second` where it is the second ad's.
-pub fn node_of(second: bool, kind: u64, a: u64, b: u64) -> Node
-    ensures { result ≡ node_of second kind a b }
+#[tactic(auto, unfolding(ad::specs::Stored::arity, ad::specs::Stored::unary_of, ad::specs::Stored::binary_of))]
+fn node_of_kind(second: bool, kind: Kind, a: u64, b: u64) -> Node
+    ensures { result ≡ node_of second (code_of kind) a b }
 {
-    if ad::is_reference(kind) {
-        return Node::Reference;
-    }
-    match ad::arity(kind) {
-        1 => Node::OfOne(ad::unary_of(kind)),
-        2 => Node::OfTwo(ad::binary_of(kind)),
-        3 => Node::Conditional,
+    match kind {
+        Kind::Own => Node::Reference,
+        Kind::Other => Node::Reference,
+        Kind::Unary(op) => Node::OfOne(op),
+        Kind::Binary(op) => Node::OfTwo(op),
+        Kind::Conditional => Node::Conditional,
         _ => Node::Constant(constant_of(second, kind, a, b)),
+    }
+}
+
+// The node of any numbers: its kind, and its first two operands or data; `second` where it is the second ad's.
+pub fn node_of(second: bool, kind: Option<Kind>, a: u64, b: u64) -> Node
+    ensures { (k : ℕ) → kind ≡ kind_of k → result ≡ node_of second k a b }
+{
+    match kind {
+        Some(kind) => node_of_kind(second, kind, a, b),
+        None => Node::Constant(Value::Undefined),
     }
 }
 
