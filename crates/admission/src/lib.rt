@@ -1,22 +1,17 @@
 // Whether two stored ads are admitted to a call that is lent them: the rooms are large enough, and both ads are well formed.
 #![tactic(auto)]
 
-ghost use Rattle.std.specs.Prelude.{◌≡◌};
+ghost use Rattle.std.specs.Prelude.{◌≡◌, ◌≤◌, length};
+ghost use Rattle.ad.specs.Layout.{ad_words, ad_bytes_room};
 ghost use Rattle.admission.specs.Admission.{small_pair};
-ghost use Rattle.admission.specs.Inner.Admitting.{Admitting};
+ghost use Rattle.admission.specs.Inner.Admitting.{Forming, Admitting};
 
-use links::Counts;
-use well_formed::Checked;
+use ad::StoredAd;
+use links::{AdPair, FormedAd};
+use syntax::Reason;
 
 // How many entries the list of a match has room for.
 pub const ENTRIES: usize = links::SLOTS;
-
-// A refusal's number; or how many nodes and definitions the first ad and the second have.
-#[derive(Clone, Copy)]
-pub enum Admission {
-    Refused(u8),
-    Admitted(Counts, Counts),
-}
 
 // Whether the lent memory is smaller than the room of two ads, of `room` numbers, of which `lent` are there, and of 2,048 entries.
 pub fn too_small(
@@ -30,34 +25,42 @@ pub fn too_small(
 ) -> bool
     ensures { result ≡ small_pair first_words.now first_bytes.now second_words.now second_bytes.now lent room entries }
 {
-    if first_words.len() < ad::WORDS {
-        return true;
-    }
-    if first_bytes.len() < ad::BYTES {
-        return true;
-    }
-    if second_words.len() < ad::WORDS {
-        return true;
-    }
-    if second_bytes.len() < ad::BYTES {
-        return true;
-    }
-    if lent < room {
-        return true;
-    }
-    entries < ENTRIES
+    first_words.len() < ad::WORDS
+        || first_bytes.len() < ad::BYTES
+        || second_words.len() < ad::WORDS
+        || second_bytes.len() < ad::BYTES
+        || lent < room
+        || entries < ENTRIES
 }
 
-// Tests the rooms, then the first ad, then the second; the check counts what it meets.
-pub fn admit(
-    first_words: &[u64],
-    first_bytes: &[u8],
-    second_words: &[u64],
-    second_bytes: &[u8],
+// The well-formed ad in the front of some memory, with the counts that the check found.
+fn formed<'a>(words: &'a [u64], bytes: &'a [u8]) -> Result<FormedAd<'a>, Reason>
+    requires { (ad_words ≤ length words.now) × (ad_bytes_room ≤ length bytes.now) }
+    ensures { Forming words.now bytes.now result }
+{
+    let ad = StoredAd {
+        words: &words[..ad::WORDS],
+        bytes: &bytes[..ad::BYTES],
+    };
+    match well_formed::check(words, bytes) {
+        Some(checked) => Ok(FormedAd {
+            ad,
+            counts: checked.counts,
+        }),
+        None => Err(Reason::NotWellFormed),
+    }
+}
+
+// Tests the rooms, then the first ad, then the second, and answers both as they stand in exactly their rooms.
+pub fn admit<'a>(
+    first_words: &'a [u64],
+    first_bytes: &'a [u8],
+    second_words: &'a [u64],
+    second_bytes: &'a [u8],
     lent: usize,
     room: usize,
     entries: usize,
-) -> Admission
+) -> Result<AdPair<'a>, Reason>
     ensures { Admitting first_words.now first_bytes.now second_words.now second_bytes.now lent room entries result }
 {
     if too_small(
@@ -69,23 +72,9 @@ pub fn admit(
         room,
         entries,
     ) {
-        return Admission::Refused(1);
+        return Err(Reason::MemoryTooSmall);
     }
-    let first = well_formed::check(first_words, first_bytes);
-    let Checked::WellFormed(d, n, _) = first else {
-        return Admission::Refused(10);
-    };
-    let second = well_formed::check(second_words, second_bytes);
-    let Checked::WellFormed(e, m, _) = second else {
-        return Admission::Refused(10);
-    };
-    let p = Counts {
-        nodes: n,
-        definitions: d,
-    };
-    let q = Counts {
-        nodes: m,
-        definitions: e,
-    };
-    Admission::Admitted(p, q)
+    let first = formed(first_words, first_bytes)?;
+    let second = formed(second_words, second_bytes)?;
+    Ok(AdPair { first, second })
 }

@@ -8,12 +8,15 @@ ghost use Rattle.c_checking.specs.Inner.Numbers.{check_numbers};
 use well_formed::Checked;
 
 // What the check answers, as four numbers.
-fn check_numbers(answer: Checked) -> [u64; 4]
+fn check_numbers(answer: Option<Checked>) -> [u64; 4]
     ensures { result ≡ check_numbers answer }
 {
     match answer {
-        Checked::WellFormed(d, n, k) => [0, d as u64, n as u64, k as u64],
-        Checked::Malformed => [10, 0, 0, 0],
+        Some(checked) => {
+            let counts = checked.counts;
+            [0, counts.definitions as u64, counts.nodes as u64, checked.print_length as u64]
+        }
+        None => [10, 0, 0, 0],
     }
 }
 

@@ -6,22 +6,18 @@ ghost use Rattle.std.specs.Prelude.{◌≡◌};
 ghost use Rattle.c_places.specs.Inspecting.{position_numbers, holder_numbers};
 ghost use Rattle.holders.specs.Holders.{holder};
 
-use holders::Holder;
+use ad::StoredAd;
 
 // The definition that a node belongs to, as four numbers: 1, its number, and its name's offset and length; zeros where there is none.
 pub fn definition(words: &[u64], node: usize, answer: &mut [u64; 4])
     ensures { answer.new ≡ holder_numbers words.now (holder words.now node) }
 {
     *answer = match holders::definition_of(words, node) {
-        Holder::Nothing => [0, 0, 0, 0],
-        Holder::Definition(j) => {
-            [
-                1,
-                j as u64,
-                ad::offset(words, j) as u64,
-                ad::name_length(words, j) as u64,
-            ]
+        Some(j) => {
+            let ad = StoredAd { words, bytes: b"" };
+            [1, j as u64, ad.offset(j) as u64, ad.name_length(j) as u64]
         }
+        None => [0, 0, 0, 0],
     };
 }
 

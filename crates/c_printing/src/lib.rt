@@ -6,15 +6,15 @@ ghost use Rattle.c_printing.specs.Printing.{print_numbers, PrintReported};
 ghost use Rattle.inspection.specs.Inspection.{node_text};
 ghost use Rattle.syntax.specs.Print.{printed_ad};
 
-use printer::Printed;
+use syntax::Refusal;
 
 // What printing answers, as two numbers.
-fn print_numbers(answer: Printed) -> [u64; 2]
+fn print_numbers(answer: Result<usize, Refusal>) -> [u64; 2]
     ensures { result ≡ print_numbers answer }
 {
     match answer {
-        Printed::Text(n) => [0, n as u64],
-        Printed::Refused(k, _) => [k as u64, 0],
+        Ok(n) => [0, n as u64],
+        Err(refusal) => [u64::from(refusal.reason.number()), 0],
     }
 }
 

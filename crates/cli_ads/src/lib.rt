@@ -1,72 +1,68 @@
 // The commands of one ad: check and print.
 #![tactic(auto)]
 
-use ad_reader::Answer;
-use cli_input::Input;
-use printer::Printed;
+use cli_output::Output;
+use syntax::Refusal;
 
 // Says that the text of the file i is refused.
-pub fn refused(rt: &HostRuntime, out: &mut bool, i: usize, text: &[u8], refusal: u8, place: usize) {
-    cli_output::argument(rt, out, i);
-    cli_refusals::refused(rt, out, text, refusal, place);
+pub fn refused(out: &mut Output, i: usize, text: &[u8], refusal: Refusal) {
+    out.argument(i);
+    cli_refusals::refused(out, text, refusal);
 }
 
-fn check_text(rt: &HostRuntime, out: &mut bool, i: usize, text: &[u8]) {
-    let mut words = [0u64; 4864];
-    let mut bytes = [0u8; 16384];
+fn check_text(out: &mut Output, i: usize, text: &[u8]) {
+    let mut words = [0u64; ad::WORDS];
+    let mut bytes = [0u8; ad::BYTES];
     match reader::read(text, &mut words, &mut bytes) {
-        Answer::Accepted(d, n) => {
-            cli_output::argument(rt, out, i);
-            cli_output::accepted(rt, out, d, n);
+        Ok(counts) => {
+            out.argument(i);
+            out.accepted(counts.definitions, counts.nodes);
         }
-        Answer::Refused(k, p) => refused(rt, out, i, text, k, p),
+        Err(refusal) => refused(out, i, text, refusal),
     }
 }
 
-fn check_file(rt: &HostRuntime, out: &mut bool, i: usize) {
+fn check_file(rt: &HostRuntime, out: &mut Output, i: usize) {
     let mut text = [0u8; 16385];
-    let Input::Text(k) = cli_input::read_argument(rt, i, &mut text) else {
-        return;
-    };
-    check_text(rt, out, i, ad::part(&text, 0, k));
+    if let Some(k) = cli_input::read_argument(rt, i, &mut text) {
+        check_text(out, i, parts::cut(&text, 0, k));
+    }
 }
 
 // Once standard output is lost, nothing is said of the files that are left, not even that one cannot be read.
-pub fn check_files(rt: &HostRuntime, out: &mut bool, count: usize) {
-    let mut i = 2;
-    while i < count {
-        if !*out {
+pub fn check_files(rt: &HostRuntime, out: &mut Output, count: usize) {
+    for i in 2..count {
+        if out.is_lost() {
             return;
         }
         check_file(rt, out, i);
-        i += 1;
     }
 }
 
-fn print_stored(rt: &HostRuntime, out: &mut bool, words: &[u64], bytes: &[u8]) {
+// A refusal of the print is about no byte of a text.
+fn print_stored(out: &mut Output, words: &[u64], bytes: &[u8]) {
     let mut text = [0u8; 16384];
     match printer::print(words, bytes, &mut text) {
-        Printed::Text(n) => {
-            cli_output::say(rt, out, ad::part(&text, 0, n));
-            cli_output::byte(rt, out, b'\n');
+        Ok(n) => {
+            out.say(parts::cut(&text, 0, n));
+            out.byte(b'\n');
         }
-        Printed::Refused(k, p) => refused(rt, out, 2, b"", k, p),
+        Err(refusal) => refused(out, 2, b"", refusal),
     }
 }
 
-fn print_text(rt: &HostRuntime, out: &mut bool, text: &[u8]) {
-    let mut words = [0u64; 4864];
-    let mut bytes = [0u8; 16384];
+fn print_text(out: &mut Output, text: &[u8]) {
+    let mut words = [0u64; ad::WORDS];
+    let mut bytes = [0u8; ad::BYTES];
     match reader::read(text, &mut words, &mut bytes) {
-        Answer::Accepted(_, _) => print_stored(rt, out, &words, &bytes),
-        Answer::Refused(k, p) => refused(rt, out, 2, text, k, p),
+        Ok(_) => print_stored(out, &words, &bytes),
+        Err(refusal) => refused(out, 2, text, refusal),
     }
 }
 
-pub fn print_file(rt: &HostRuntime, out: &mut bool) {
+pub fn print_file(rt: &HostRuntime, out: &mut Output) {
     let mut text = [0u8; 16385];
-    let Input::Text(k) = cli_input::read_argument(rt, 2, &mut text) else {
-        return;
-    };
-    print_text(rt, out, ad::part(&text, 0, k));
+    if let Some(k) = cli_input::read_argument(rt, 2, &mut text) {
+        print_text(out, parts::cut(&text, 0, k));
+    }
 }

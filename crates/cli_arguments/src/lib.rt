@@ -1,24 +1,10 @@
 // The command line: which command it asks for.
 #![tactic(auto)]
 
-ghost use Rattle.std.specs.Prelude.{◌≤◌, ◌<◌};
-
 use std::env::{Env, FillError};
 
-#[derive(Drop)]
-enum Command {
-    Check,
-    Print,
-    Match,
-    Trace,
-    Graph,
-    Help,
-    Version,
-    Unknown,
-}
-
 // What is asked for: a number behind Check is one more than the last argument, another is a budget.
-#[derive(Drop)]
+#[derive(Clone, Copy)]
 pub enum Request {
     Check(usize),
     Print,
@@ -27,48 +13,6 @@ pub enum Request {
     Graph,
     Help,
     Version,
-    Wrong,
-}
-
-#[derive(Drop)]
-enum Budget {
-    Steps(u16),
-    Bad,
-}
-
-fn is_help(word: &[u8]) -> bool {
-    if text::same_bytes(word, b"help") {
-        return true;
-    }
-    if text::same_bytes(word, b"--help") {
-        return true;
-    }
-    text::same_bytes(word, b"-h")
-}
-
-fn command_of(word: &[u8]) -> Command {
-    if text::same_bytes(word, b"check") {
-        return Command::Check;
-    }
-    if text::same_bytes(word, b"print") {
-        return Command::Print;
-    }
-    if text::same_bytes(word, b"match") {
-        return Command::Match;
-    }
-    if text::same_bytes(word, b"trace") {
-        return Command::Trace;
-    }
-    if text::same_bytes(word, b"graph") {
-        return Command::Graph;
-    }
-    if text::same_bytes(word, b"--version") {
-        return Command::Version;
-    }
-    if is_help(word) {
-        return Command::Help;
-    }
-    Command::Unknown
 }
 
 // How many words the command line has, the program's name among them.
@@ -81,127 +25,84 @@ fn argument_count(rt: &HostRuntime) -> usize {
     usize::MAX
 }
 
-// 1 where an argument is `-`, else 0.
-fn input_count(rt: &HostRuntime, i: usize) -> usize
-    ensures { result ≤ 1 }
-{
+// Whether an argument is `-`.
+fn is_input(rt: &HostRuntime, i: usize) -> bool {
     let mut word = [0u8; 2];
     let n = rt.arg(i, &mut word).unwrap_or(0);
-    if text::same_bytes(ad::part(&word, 0, n), b"-") {
-        return 1;
-    }
-    0
+    matches!(parts::cut(&word, 0, n), b"-")
 }
 
-// How many of the arguments from i up to `end` are `-`.
-fn inputs(rt: &HostRuntime, from: usize, end: usize) -> usize {
-    let mut n = 0;
-    let mut i = from;
-    while i < end {
-        n += input_count(rt, i);
-        i += 1;
-    }
-    n
-}
-
-fn digit(b: u8) -> u64
-    ensures { result < 16 }
-{
-    (b % 16) as u64
-}
-
-fn budget_of(word: &[u8]) -> Budget {
-    if word.len() == 0 {
-        return Budget::Bad;
-    }
-    let mut n = 0;
-    let mut i = 0;
-    while i < word.len() {
-        if !text::is_digit(word[i]) {
-            return Budget::Bad;
+// Whether standard input is named more than once among the arguments from i up to `end`.
+fn input_twice(rt: &HostRuntime, from: usize, end: usize) -> bool {
+    let mut once = false;
+    for i in from..end {
+        let input = is_input(rt, i);
+        if once && input {
+            return true;
         }
-        n = n * 10 + digit(word[i]);
-        if 65535 < n {
-            return Budget::Bad;
+        once = once || input;
+    }
+    false
+}
+
+// The budget of a word: digits alone, 65,535 at most.
+fn budget_of(word: &[u8]) -> Option<u16> {
+    if word.is_empty() {
+        return None;
+    }
+    let mut n = 0u16;
+    for &b in word {
+        if !text::is_digit(b) {
+            return None;
         }
-        i += 1;
+        n = n.checked_mul(10)?.checked_add((b % 16) as u16)?;
     }
-    Budget::Steps(n as u16)
+    Some(n)
 }
 
-// The budget that an argument gives.
-fn budget_argument(rt: &HostRuntime, i: usize) -> Budget {
-    let mut word = [0u8; 65536];
-    let n = rt.arg(i, &mut word).unwrap_or(0);
-    budget_of(&word[..n])
-}
-
-// The request, if the command line has n words.
-fn only(count: usize, n: usize, request: Request) -> Request {
-    if count == n {
-        return request;
-    }
-    Request::Wrong
-}
-
-fn check_request(rt: &HostRuntime, count: usize) -> Request {
-    if count < 3 {
-        return Request::Wrong;
-    }
-    if inputs(rt, 2, count) > 1 {
-        return Request::Wrong;
-    }
-    Request::Check(count)
-}
-
-fn match_request(trace: bool, budget: u16) -> Request {
-    if trace {
-        return Request::Trace(budget);
-    }
-    Request::Match(budget)
-}
-
-// A match with the budget that the last of five words gives.
-fn budgeted_request(rt: &HostRuntime, trace: bool) -> Request {
-    match budget_argument(rt, 4) {
-        Budget::Steps(n) => match_request(trace, n),
-        Budget::Bad => Request::Wrong,
+// The budget of a match: that of the fifth of five words, or the largest where there are four.
+fn budget(rt: &HostRuntime, count: usize) -> Option<u16> {
+    match count {
+        4 => Some(u16::MAX),
+        5 => {
+            let mut word = [0u8; 65536];
+            let n = rt.arg(4, &mut word).unwrap_or(0);
+            budget_of(&word[..n])
+        }
+        _ => None,
     }
 }
 
-fn pair_request(rt: &HostRuntime, count: usize, trace: bool) -> Request {
-    if inputs(rt, 2, 4) > 1 {
-        return Request::Wrong;
+// What a command asks for, of `count` words; none where it does not take as many.
+fn request(rt: &HostRuntime, command: &[u8], count: usize) -> Option<Request> {
+    match command {
+        b"check" if 3 <= count => Some(Request::Check(count)),
+        b"print" if count == 3 => Some(Request::Print),
+        b"match" => Some(Request::Match(budget(rt, count)?)),
+        b"trace" => Some(Request::Trace(budget(rt, count)?)),
+        b"graph" if count == 4 => Some(Request::Graph),
+        b"help" | b"--help" | b"-h" if count == 2 => Some(Request::Help),
+        b"--version" if count == 2 => Some(Request::Version),
+        _ => None,
     }
-    if count == 4 {
-        return match_request(trace, 65535);
-    }
-    if count == 5 {
-        return budgeted_request(rt, trace);
-    }
-    Request::Wrong
 }
 
-fn graph_request(rt: &HostRuntime, count: usize) -> Request {
-    if inputs(rt, 2, 4) > 1 {
-        return Request::Wrong;
+// How many words there are up to the last file of a request.
+fn files_end(request: Request) -> usize {
+    match request {
+        Request::Check(count) => count,
+        Request::Match(_) | Request::Trace(_) | Request::Graph => 4,
+        _ => 2,
     }
-    only(count, 4, Request::Graph)
 }
 
-// What the command line asks for.
-pub fn requested(rt: &HostRuntime) -> Request {
+// What the command line asks for, if it is right: standard input can be read once.
+pub fn requested(rt: &HostRuntime) -> Option<Request> {
     let mut word = [0u8; 16];
     let n = rt.arg(1, &mut word).unwrap_or(0);
-    let count = argument_count(rt);
-    match command_of(ad::part(&word, 0, n)) {
-        Command::Check => check_request(rt, count),
-        Command::Print => only(count, 3, Request::Print),
-        Command::Match => pair_request(rt, count, false),
-        Command::Trace => pair_request(rt, count, true),
-        Command::Graph => graph_request(rt, count),
-        Command::Help => only(count, 2, Request::Help),
-        Command::Version => only(count, 2, Request::Version),
-        Command::Unknown => Request::Wrong,
+    let request = request(rt, parts::cut(&word, 0, n), argument_count(rt))?;
+    if input_twice(rt, 2, files_end(request)) {
+        return None;
     }
+    Some(request)
 }

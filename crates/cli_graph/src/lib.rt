@@ -1,205 +1,137 @@
 // The references between the definitions of two ads, as a text for Graphviz.
 #![tactic(auto)]
 
-use cli_output::{byte, say, side};
-use cli_stored::Found;
+ghost use Rattle.std.specs.Prelude.{◌<◌};
+ghost use Rattle.syntax.specs.Bounds.{max_nodes};
 
-// Puts a name in lower case, and answers its length.
-fn put_lower(name: &[u8], room: &mut [u8]) -> usize {
-    let mut n = 0;
-    while n < room.len() {
-        if name.len() <= n {
-            return n;
-        }
-        room[n] = text::lower(name[n]);
-        n += 1;
-    }
-    n
-}
+use ad::{Kind, StoredAd};
+use cli_output::Output;
+use cli_stored::TwoAds;
 
 // What names a box: the side, a point and the name in lower case, so that a reference finds it.
-fn identity(rt: &HostRuntime, out: &mut bool, second: bool, name: &[u8]) {
+fn identity(out: &mut Output, second: bool, name: &[u8]) {
     let mut lower = [0u8; 64];
-    let n = put_lower(name, &mut lower);
-    byte(rt, out, b'"');
-    side(rt, out, second);
-    byte(rt, out, b'.');
-    say(rt, out, ad::part(&lower, 0, n));
-    byte(rt, out, b'"');
+    let n = name.len().min(64);
+    for i in 0..n {
+        lower[i] = text::lower(name[i]);
+    }
+    out.byte(b'"');
+    out.side(second);
+    out.byte(b'.');
+    out.say(&lower[..n]);
+    out.byte(b'"');
 }
 
-fn definition(rt: &HostRuntime, out: &mut bool, second: bool, name: &[u8]) {
-    say(rt, out, b"    ");
-    identity(rt, out, second, name);
-    say(rt, out, b" [label=\"");
-    say(rt, out, name);
-    say(rt, out, b"\"];\n");
+fn definition(out: &mut Output, second: bool, name: &[u8]) {
+    out.say(b"    ");
+    identity(out, second, name);
+    out.say(b" [label=\"");
+    out.say(name);
+    out.say(b"\"];\n");
 }
 
-fn definitions(rt: &HostRuntime, out: &mut bool, second: bool, words: &[u64; 4864], bytes: &[u8]) {
-    let mut j = 0;
-    while j < 256 {
-        let name = cli_stored::name(words, bytes, j);
-        if name.len() == 0 {
+fn definitions(out: &mut Output, second: bool, ad: StoredAd<'_>) {
+    for j in 0..syntax::DEFINITIONS {
+        let name = ad.name(j);
+        if name.is_empty() {
             return;
         }
-        definition(rt, out, second, name);
-        j += 1;
+        definition(out, second, name);
     }
 }
 
-fn frame(rt: &HostRuntime, out: &mut bool, second: bool, words: &[u64; 4864], bytes: &[u8]) {
-    say(rt, out, b"  subgraph cluster_");
-    side(rt, out, second);
-    say(rt, out, b" {\n    label=\"");
-    side(rt, out, second);
-    say(rt, out, b"\";\n");
-    definitions(rt, out, second, words, bytes);
-    say(rt, out, b"  }\n");
+fn frame(out: &mut Output, second: bool, ad: StoredAd<'_>) {
+    out.say(b"  subgraph cluster_");
+    out.side(second);
+    out.say(b" {\n    label=\"");
+    out.side(second);
+    out.say(b"\";\n");
+    definitions(out, second, ad);
+    out.say(b"  }\n");
 }
 
 // The box of a definition that an ad lacks, in its frame.
-fn absent(rt: &HostRuntime, out: &mut bool, second: bool, name: &[u8]) {
-    say(rt, out, b"  subgraph cluster_");
-    side(rt, out, second);
-    say(rt, out, b" { ");
-    identity(rt, out, second, name);
-    say(rt, out, b" [label=\"");
-    say(rt, out, name);
-    say(rt, out, b"\", style=dashed]; }\n");
+fn absent(out: &mut Output, second: bool, name: &[u8]) {
+    out.say(b"  subgraph cluster_");
+    out.side(second);
+    out.say(b" { ");
+    identity(out, second, name);
+    out.say(b" [label=\"");
+    out.say(name);
+    out.say(b"\", style=dashed]; }\n");
 }
 
-fn arrow(rt: &HostRuntime, out: &mut bool, second: bool, from: &[u8], far: bool, to: &[u8]) {
-    say(rt, out, b"  ");
-    identity(rt, out, second, from);
-    say(rt, out, b" -> ");
-    identity(rt, out, far, to);
-}
-
-// A reference of the definition `from` to a name, which is found or not.
-fn reference(
-    rt: &HostRuntime,
-    out: &mut bool,
+// A reference: the definition it stands in, the ad and the name it refers to.
+#[derive(Clone, Copy)]
+struct Reference<'a> {
     second: bool,
-    from: &[u8],
+    from: &'a [u8],
     far: bool,
-    to: &[u8],
-    found: Found,
-    circular: bool,
-) {
-    let Found::Root(_) = found else {
-        absent(rt, out, far, to);
-        arrow(rt, out, second, from, far, to);
-        say(rt, out, b" [label=\"absent\", style=dashed];\n");
-        return;
-    };
-    arrow(rt, out, second, from, far, to);
+    to: &'a [u8],
+}
+
+fn arrow(out: &mut Output, reference: Reference<'_>) {
+    out.say(b"  ");
+    identity(out, reference.second, reference.from);
+    out.say(b" -> ");
+    identity(out, reference.far, reference.to);
+}
+
+fn missing(out: &mut Output, reference: Reference<'_>) {
+    absent(out, reference.far, reference.to);
+    arrow(out, reference);
+    out.say(b" [label=\"absent\", style=dashed];\n");
+}
+
+fn found(out: &mut Output, reference: Reference<'_>, circular: bool) {
+    arrow(out, reference);
     if circular {
-        say(rt, out, b" [label=\"circular\", color=red]");
+        out.say(b" [label=\"circular\", color=red]");
     }
-    say(rt, out, b";\n");
+    out.say(b";\n");
 }
 
-// A node of an ad, where it is a reference: one of kind 7, `name`, is looked up here, and one of kind 8, `other.name`, in the other ad.
-fn node(
-    rt: &HostRuntime,
-    out: &mut bool,
-    second: bool,
-    words: &[u64; 4864],
-    bytes: &[u8],
-    others: &[u64; 4864],
-    other_bytes: &[u8],
-    node: usize,
-    circular: bool,
-) {
-    let from = holders::definition_name(words, bytes, node);
-    let to = cli_stored::reference(words, bytes, node);
-    let kind = cli_stored::kind(words, node);
-    if kind == 7 {
-        let found = cli_stored::find(words, bytes, to);
-        reference(rt, out, second, from, second, to, found, circular);
-    }
-    if kind == 8 {
-        let found = cli_stored::find(others, other_bytes, to);
-        reference(rt, out, second, from, !second, to, found, circular);
-    }
-}
-
-// The second ad's flags stand behind the first's.
-fn is_circular(flags: &[usize; 2048], second: bool, node: usize) -> bool {
-    if 1024 <= node {
-        return false;
-    }
-    if second {
-        return flags[1024 + node] == 1;
-    }
-    flags[node] == 1
-}
-
-// The references of an ad, `second` or the first, in the order of their nodes.
-fn references(
-    rt: &HostRuntime,
-    out: &mut bool,
-    second: bool,
-    words: &[u64; 4864],
-    bytes: &[u8],
-    others: &[u64; 4864],
-    other_bytes: &[u8],
-    flags: &[usize; 2048],
-) {
-    let mut i = 0;
-    while i < 1024 {
-        let circular = is_circular(flags, second, i);
-        node(
-            rt,
-            out,
-            second,
-            words,
-            bytes,
-            others,
-            other_bytes,
-            i,
-            circular,
-        );
-        i += 1;
-    }
-}
-
-pub fn draw(
-    rt: &HostRuntime,
-    out: &mut bool,
-    first: &[u64; 4864],
-    first_bytes: &[u8],
-    second: &[u64; 4864],
-    second_bytes: &[u8],
-    flags: &[usize; 2048],
-) {
-    say(
-        rt,
-        out,
-        b"digraph classad {\n  rankdir=LR;\n  node [shape=box];\n",
-    );
-    frame(rt, out, false, first, first_bytes);
-    frame(rt, out, true, second, second_bytes);
-    references(
-        rt,
-        out,
-        false,
-        first,
-        first_bytes,
+// A reference of node i of an ad, `far` says in which ad its name is looked up.
+fn reference(out: &mut Output, second: bool, ads: TwoAds<'_>, i: usize, far: bool, circular: bool)
+    requires { i < max_nodes }
+{
+    let ad = ads.ad(second);
+    let reference = Reference {
         second,
-        second_bytes,
-        flags,
-    );
-    references(
-        rt,
-        out,
-        true,
-        second,
-        second_bytes,
-        first,
-        first_bytes,
-        flags,
-    );
-    say(rt, out, b"}\n");
+        from: holders::definition_name(ad.words, ad.bytes, i),
+        far,
+        to: ad.reference_name(i),
+    };
+    match cli_stored::find(ads.ad(far), reference.to) {
+        Some(_) => found(out, reference, circular),
+        None => missing(out, reference),
+    }
+}
+
+// A node of an ad, where it is a reference: `name` is looked up here, and `other.name` in the other ad.
+fn node(out: &mut Output, second: bool, ads: TwoAds<'_>, i: usize, circular: bool)
+    requires { i < max_nodes }
+{
+    match ads.ad(second).kind(i) {
+        Some(Kind::Own) => reference(out, second, ads, i, second, circular),
+        Some(Kind::Other) => reference(out, second, ads, i, !second, circular),
+        _ => {}
+    }
+}
+
+// The references of an ad, `second` or the first, in the order of their nodes. The second ad's flags stand behind the first's.
+fn references(out: &mut Output, second: bool, ads: TwoAds<'_>, flags: &[usize; 2048]) {
+    for i in 0..syntax::NODES {
+        let slot = if second { syntax::NODES + i } else { i };
+        node(out, second, ads, i, flags[slot] == 1);
+    }
+}
+
+pub fn draw(out: &mut Output, ads: TwoAds<'_>, flags: &[usize; 2048]) {
+    out.say(b"digraph classad {\n  rankdir=LR;\n  node [shape=box];\n");
+    frame(out, false, ads.first);
+    frame(out, true, ads.second);
+    references(out, false, ads, flags);
+    references(out, true, ads, flags);
+    out.say(b"}\n");
 }

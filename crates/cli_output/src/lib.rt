@@ -1,5 +1,4 @@
-// How the command writes its lines. `rt` stands for the system. `out` is whether standard output takes what is written: once it does
-// not, that is said on standard error, and nothing more is written.
+// How the command writes its lines.
 #![tactic(auto)]
 
 use std::env::Env;
@@ -43,70 +42,86 @@ pub fn fail(rt: &HostRuntime, name: &[u8], error: io::Error) {
     complain(rt, b"\n");
 }
 
-// What comes of a write on standard output.
-fn told(rt: &HostRuntime, out: &mut bool, written: io::Result<()>) {
-    let Err(error) = written else {
-        return;
-    };
-    *out = false;
-    fail(rt, b"standard output", error);
+// What the command takes, on standard error, as the command line is wrong.
+pub fn misused(rt: &HostRuntime) {
+    complain(rt, &USAGE);
 }
 
-pub fn say(rt: &HostRuntime, out: &mut bool, bytes: &[u8]) {
-    if !*out {
-        return;
+// Standard output. Once it does not take what is written, that is said on standard error, and nothing more is written.
+pub struct Output {
+    rt: HostRuntime,
+    lost: bool,
+}
+
+impl Output {
+    pub fn new(rt: HostRuntime) -> Output {
+        Output { rt, lost: false }
     }
-    told(rt, out, Print::write_all(rt, bytes));
-}
 
-pub fn byte(rt: &HostRuntime, out: &mut bool, b: u8) {
-    say(rt, out, &[b]);
-}
-
-pub fn number(rt: &HostRuntime, out: &mut bool, n: u64) {
-    if !*out {
-        return;
+    pub fn is_lost(&self) -> bool {
+        self.lost
     }
-    told(rt, out, rt.print(n));
-}
 
-// A label and a number.
-pub fn counted(rt: &HostRuntime, out: &mut bool, label: &[u8], n: u64) {
-    say(rt, out, label);
-    number(rt, out, n);
-}
-
-// The argument i of the command line, which is a file's name.
-pub fn argument(rt: &HostRuntime, out: &mut bool, i: usize) {
-    let mut name = [0u8; 65536];
-    let n = rt.arg(i, &mut name).unwrap_or(0);
-    say(rt, out, &name[..n]);
-}
-
-pub fn side(rt: &HostRuntime, out: &mut bool, second: bool) {
-    if second {
-        say(rt, out, b"second");
-        return;
+    // What comes of a write.
+    fn told(&mut self, written: io::Result<()>) {
+        if let Err(error) = written {
+            self.lost = true;
+            fail(&self.rt, b"standard output", error);
+        }
     }
-    say(rt, out, b"first");
-}
 
-// What the command takes, on standard error where the command line is wrong.
-pub fn usage(rt: &HostRuntime, out: &mut bool, wrong: bool) {
-    if wrong {
-        complain(rt, &USAGE);
-        return;
+    pub fn say(&mut self, bytes: &[u8]) {
+        if !self.lost {
+            let written = Print::write_all(&self.rt, bytes);
+            self.told(written);
+        }
     }
-    say(rt, out, &USAGE);
-}
 
-pub fn version(rt: &HostRuntime, out: &mut bool) {
-    say(rt, out, b"classad 0.1.0\n");
-}
+    pub fn byte(&mut self, b: u8) {
+        self.say(&[b]);
+    }
 
-// What is said behind the name of a file whose text is accepted.
-pub fn accepted(rt: &HostRuntime, out: &mut bool, definitions: usize, nodes: usize) {
-    counted(rt, out, b": accepted, ", definitions as u64);
-    counted(rt, out, b" definitions, ", nodes as u64);
-    say(rt, out, b" nodes\n");
+    pub fn number(&mut self, n: u64) {
+        if !self.lost {
+            let written = self.rt.print(n);
+            self.told(written);
+        }
+    }
+
+    // A label and a number.
+    pub fn counted(&mut self, label: &[u8], n: u64) {
+        self.say(label);
+        self.number(n);
+    }
+
+    // The argument i of the command line, which is a file's name.
+    pub fn argument(&mut self, i: usize) {
+        let mut name = [0u8; 65536];
+        let n = self.rt.arg(i, &mut name).unwrap_or(0);
+        self.say(&name[..n]);
+    }
+
+    pub fn side(&mut self, second: bool) {
+        if second {
+            self.say(b"second");
+        } else {
+            self.say(b"first");
+        }
+    }
+
+    // What the command takes.
+    pub fn usage(&mut self) {
+        self.say(&USAGE);
+    }
+
+    pub fn version(&mut self) {
+        self.say(b"classad 0.1.0\n");
+    }
+
+    // What is said behind the name of a file whose text is accepted.
+    pub fn accepted(&mut self, definitions: usize, nodes: usize) {
+        self.counted(b": accepted, ", definitions as u64);
+        self.counted(b" definitions, ", nodes as u64);
+        self.say(b" nodes\n");
+    }
 }

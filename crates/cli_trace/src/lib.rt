@@ -1,87 +1,46 @@
 // The list of a match, entry by entry.
 #![tactic(auto)]
 
-use cli_output::{byte, number, say};
-use printer::Printed;
+use ad::StoredAd;
+use cli_output::Output;
+use cli_stored::TwoAds;
 
 // How many entries the list has: 0 is none.
 pub fn entry_count(list: &[u64]) -> usize {
-    let mut n = 0;
-    while n < list.len() {
-        if list[n] == 0 {
-            return n;
-        }
-        n += 1;
-    }
-    n
+    list.iter().position(|&entry| entry == 0).unwrap_or(list.len())
 }
 
 // The definition that a node belongs to, and its expression.
-fn node_line(rt: &HostRuntime, out: &mut bool, words: &[u64], bytes: &[u8], node: usize) {
-    say(rt, out, holders::definition_name(words, bytes, node));
-    say(rt, out, b": ");
+fn node_line(out: &mut Output, ad: StoredAd<'_>, node: usize) {
+    out.say(holders::definition_name(ad.words, ad.bytes, node));
+    out.say(b": ");
     let mut text = [0u8; 16384];
-    match inspection::expression(words, bytes, node, &mut text) {
-        Printed::Text(n) => say(rt, out, ad::part(&text, 0, n)),
-        Printed::Refused(_, _) => say(rt, out, b"(printed text over 16,384 bytes)"),
+    match inspection::expression(ad.words, ad.bytes, node, &mut text) {
+        Ok(n) => out.say(parts::cut(&text, 0, n)),
+        Err(_) => out.say(b"(printed text over 16,384 bytes)"),
     }
 }
 
 // One entry, 1,024 · side + node, the k-th of the list.
-fn entry<'a>(
-    rt: &HostRuntime,
-    out: &mut bool,
-    first: &[u64],
-    first_bytes: &'a [u8],
-    second: &[u64],
-    second_bytes: &'a [u8],
-    table: &[u64],
-    k: usize,
-    place: u64,
-) {
+fn entry(out: &mut Output, ads: TwoAds<'_>, table: &[u64], k: usize, place: u64) {
     let node = (place % 1024) as usize;
     let far = 1024 <= place;
-    number(rt, out, k as u64);
-    if far {
-        say(rt, out, b" second ");
-        node_line(rt, out, second, second_bytes, node);
-    } else {
-        say(rt, out, b" first ");
-        node_line(rt, out, first, first_bytes, node);
-    }
-    say(rt, out, b" -> ");
-    let s = results::value_at(table, far, node);
-    cli_values::slot(rt, out, s, first_bytes, second_bytes);
-    byte(rt, out, b'\n');
+    out.number(k as u64);
+    out.byte(b' ');
+    out.side(far);
+    out.byte(b' ');
+    node_line(out, ads.ad(far), node);
+    out.say(b" -> ");
+    let slot = results::value_at(table, far, node);
+    cli_values::slot(out, slot, ads);
+    out.byte(b'\n');
 }
 
-pub fn entries<'a>(
-    rt: &HostRuntime,
-    out: &mut bool,
-    first: &[u64],
-    first_bytes: &'a [u8],
-    second: &[u64],
-    second_bytes: &'a [u8],
-    table: &[u64],
-    list: &[u64],
-) {
-    let mut i = 0;
-    while i < list.len() {
-        let e = list[i];
-        if e == 0 {
+pub fn entries(out: &mut Output, ads: TwoAds<'_>, table: &[u64], list: &[u64]) {
+    for i in 0..list.len() {
+        if list[i] == 0 {
             return;
         }
-        i += 1;
-        entry(
-            rt,
-            out,
-            first,
-            first_bytes,
-            second,
-            second_bytes,
-            table,
-            i,
-            e - 1,
-        );
+        entry(out, ads, table, i + 1, list[i] - 1);
     }
 }

@@ -1,118 +1,62 @@
 // The lines behind a match: the verdict with its reasons, the ranks and the steps.
 #![tactic(auto)]
 
-use cli_output::{byte, counted, say, side};
-use cli_stored::Found;
+use cli_output::Output;
+use cli_stored::TwoAds;
 use matching::Outcome;
 use slots::Slot;
 use values::Value;
 
-fn is_true_value(v: Value) -> bool {
-    match v {
-        Value::Boolean(b) => b,
-        _ => false,
-    }
-}
-
-fn is_true(s: Slot) -> bool {
-    match s {
-        Slot::Blank => false,
-        Slot::Held(v) => is_true_value(v),
-    }
-}
-
-// An ad's Requirements, by its root, where it is not true or not there.
-fn reason<'a>(
-    rt: &HostRuntime,
-    out: &mut bool,
-    second: bool,
-    requirements: Found,
-    table: &[u64],
-    first_bytes: &'a [u8],
-    second_bytes: &'a [u8],
-) {
-    let Found::Root(node) = requirements else {
-        side(rt, out, second);
-        say(rt, out, b" ad has no Requirements\n");
+// An ad's Requirements, where it is not true or not there.
+fn reason(out: &mut Output, second: bool, ads: TwoAds<'_>, table: &[u64]) {
+    let Some(node) = cli_stored::find(ads.ad(second), b"Requirements") else {
+        out.side(second);
+        out.say(b" ad has no Requirements\n");
         return;
     };
     let slot = results::value_at(table, second, node);
-    if is_true(slot) {
+    if matches!(slot, Slot::Held(Value::Boolean(true))) {
         return;
     }
-    side(rt, out, second);
-    say(rt, out, b" Requirements is ");
-    cli_values::slot(rt, out, slot, first_bytes, second_bytes);
-    byte(rt, out, b'\n');
+    out.side(second);
+    out.say(b" Requirements is ");
+    cli_values::slot(out, slot, ads);
+    out.byte(b'\n');
 }
 
-fn verdict<'a>(
-    rt: &HostRuntime,
-    out: &mut bool,
-    matched: bool,
-    first: &[u64; 4864],
-    first_bytes: &'a [u8],
-    second: &[u64; 4864],
-    second_bytes: &'a [u8],
-    table: &[u64],
-) {
+fn verdict(out: &mut Output, matched: bool, ads: TwoAds<'_>, table: &[u64]) {
     if matched {
-        say(rt, out, b"matched\n");
+        out.say(b"matched\n");
         return;
     }
-    say(rt, out, b"unmatched\n");
-    let x = cli_stored::find(first, first_bytes, b"Requirements");
-    let y = cli_stored::find(second, second_bytes, b"Requirements");
-    reason(rt, out, false, x, table, first_bytes, second_bytes);
-    reason(rt, out, true, y, table, first_bytes, second_bytes);
+    out.say(b"unmatched\n");
+    reason(out, false, ads, table);
+    reason(out, true, ads, table);
 }
 
-fn ranks(rt: &HostRuntime, out: &mut bool, first: u32, second: u32) {
-    counted(rt, out, b"first rank ", first as u64);
-    counted(rt, out, b"\nsecond rank ", second as u64);
-    byte(rt, out, b'\n');
+fn ranks(out: &mut Output, first: u32, second: u32) {
+    out.counted(b"first rank ", first as u64);
+    out.counted(b"\nsecond rank ", second as u64);
+    out.byte(b'\n');
 }
 
-fn steps(rt: &HostRuntime, out: &mut bool, done: usize, length: usize) {
-    counted(rt, out, b"steps ", done as u64);
-    counted(rt, out, b" of ", length as u64);
-    byte(rt, out, b'\n');
+fn steps(out: &mut Output, done: usize, length: usize) {
+    out.counted(b"steps ", done as u64);
+    out.counted(b" of ", length as u64);
+    out.byte(b'\n');
 }
 
 // What a match gave, which left the table and a list of this length.
-pub fn outcome<'a>(
-    rt: &HostRuntime,
-    out: &mut bool,
-    outcome: Outcome,
-    first: &[u64; 4864],
-    first_bytes: &'a [u8],
-    second: &[u64; 4864],
-    second_bytes: &'a [u8],
-    table: &[u64],
-    length: usize,
-) {
+pub fn outcome(out: &mut Output, outcome: Outcome, ads: TwoAds<'_>, table: &[u64], length: usize) {
     match outcome {
-        Outcome::Refused(k, p) => {
-            say(rt, out, b"match");
-            cli_refusals::refused(rt, out, b"", k, p);
-        }
         Outcome::Finished(matched, i, j, done, _) => {
-            verdict(
-                rt,
-                out,
-                matched,
-                first,
-                first_bytes,
-                second,
-                second_bytes,
-                table,
-            );
-            ranks(rt, out, i, j);
-            steps(rt, out, done, length);
+            verdict(out, matched, ads, table);
+            ranks(out, i, j);
+            steps(out, done, length);
         }
         Outcome::Unfinished(done, _) => {
-            say(rt, out, b"not done\n");
-            steps(rt, out, done, length);
+            out.say(b"not done\n");
+            steps(out, done, length);
         }
     }
 }

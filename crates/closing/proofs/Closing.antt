@@ -1,50 +1,18 @@
 -- Each way through a transition of a loop search that leaves or closes a node: what it leaves is what the rule says. Assumes nothing.
 use mathlib.Core.Path.{◌≡◌, refl, sym, ap, ◌∙◌}
 use mathlib.Core.Logic.{◌≢◌}
-use mathlib.Core.List.{List, [], ◌∷◌}
+use mathlib.Core.List.{List, []}
 use Prim.Native.Nat.{ℕ, ◌+◌, ◌-◌, ◌*◌, ◌≤◌, ◌<◌, min}
 use native.Mathlib.Omega.{arith}
 use lib.ListN.{length, set, drop, drop_of_length-le}
 use Rattle.graph.specs.Members.{numbers}
 use Rattle.graph.specs.Graph.{Graph}
-use Rattle.graph.specs.Transition.{named, led, searched_to, back_open, back_closed, next_open, close, transition}
+use Rattle.graph.specs.Transition.{named, led, back_open, back_closed, next_open, close, transition}
 use Rattle.graph.proofs.Laws.Transitions.{state_eq, transition_leave_open, transition_collect, transition_close, transition_complete}
 use Rattle.graph.specs.declared.Place.{Place}
 use Rattle.graph.specs.declared.Place.TheVariants.{Searching, Closing}
-use Rattle.marks.specs.Inner.Memory.{view, mark_at, marks_room, mark_words, AtLoopLast}
-use Rattle.marks.proofs.Slices.{names_none, names_some, mark_set, mark_keep}
-use Rattle.components.proofs.Loops.{next_search}
-
--- ---- places
-
-module _ (G : Graph) (k : ℕ) where
-  module _ {r : ℕ} {f : List ℕ} (e : named G r ≡ f) (top high low : ℕ) where
-    pub open_none : {p : Place} → r ≡ 0 → p ≡ searched_to G (k + 1) → p ≡ back_open G k f top high low
-    open_none z q = next_search G k q ∙ ap (λ (u : List ℕ). back_open G k u top high low) (names_none G e z)
-
-    pub open_some : G.slots ≡ marks_room → r ≢ 0 → r ≤ 2048 → Searching k (r - 1) top high low ≡ back_open G k f top high low
-    open_some s n h = ap (λ (u : List ℕ). back_open G k u top high low) (names_some G e s n h)
-
-  module _ {r : ℕ} {f : List ℕ} (e : named G r ≡ f) (b : List ℕ) (high low : ℕ) where
-    pub closed_none : {p : Place} → r ≡ 0 → p ≡ searched_to G (k + 1) → p ≡ back_closed G k f b high low
-    closed_none z q = next_search G k q ∙ ap (λ (u : List ℕ). back_closed G k u b high low) (names_none G e z)
-
-    module _ (s : G.slots ≡ marks_room) (n : r ≢ 0) (h : r ≤ 2048) where
-      from_some : back_closed G k ((r - 1) ∷ []) b high low ≡ back_closed G k f b high low
-      from_some = ap (λ (u : List ℕ). back_closed G k u b high low) (names_some G e s n h)
-
-      pub closed_last : {t : ℕ} {p : Place} → named G t ≡ b → t ≡ 0 → p ≡ searched_to G (k + 1) → p ≡ back_closed G k f b high low
-      closed_last d z q = next_search G k q ∙ ap (λ (u : List ℕ). back_closed G k ((r - 1) ∷ []) u high low) (names_none G d z) ∙ from_some
-
-      pub closed_some : {t : ℕ} → named G t ≡ b → t ≢ 0 → t ≤ 2048 → Searching k (r - 1) (t - 1) high low ≡ back_closed G k f b high low
-      closed_some d m l = ap (λ (u : List ℕ). back_closed G k ((r - 1) ∷ []) u high low) (names_some G d s m l) ∙ from_some
-
-  module _ {t : ℕ} {b : List ℕ} (d : named G t ≡ b) (x high : ℕ) where
-    pub next_none : {p : Place} → t ≡ 0 → p ≡ searched_to G (k + 1) → p ≡ next_open G k x b high
-    next_none z q = next_search G k q ∙ ap (λ (u : List ℕ). next_open G k x u high) (names_none G d z)
-
-    pub next_some : G.slots ≡ marks_room → t ≢ 0 → t ≤ 2048 → Closing k x (t - 1) high ≡ next_open G k x b high
-    next_some s m l = ap (λ (u : List ℕ). next_open G k x u high) (names_some G d s m l)
+use Rattle.marks.specs.Inner.Memory.{view, mark_at, mark_words, AtLoopLast}
+use Rattle.marks.proofs.Slices.{mark_set, mark_keep}
 
 -- ---- marks
 
@@ -69,12 +37,12 @@ module _ {G : Graph} {n x : ℕ} {ta ma : List ℕ} (a : AtLoopLast G n x ta ma)
   none : drop (mark_at ma 2 x) (led G (numbers ta) x) ≡ []
   none = drop_of_length-le (led G (numbers ta) x) a.over
 
-  pub retreat_open : {p : Place} {h f b l : ℕ} → h ≡ mark_at ma 3 x → low < h → f ≡ mark_at ma 1 x → b ≡ mark_at ma 5 x → l ≡ min low b → p ≡ back_open G k (named G f) top high l →
+  pub retreat_open : {p : Place} {h b l : ℕ} {from : List ℕ} → h ≡ mark_at ma 3 x → low < h → from ≡ named G (mark_at ma 1 x) → b ≡ mark_at ma 5 x → l ≡ min low b → p ≡ back_open G k from top high l →
       view p len ta ma fl ls ≡ transition G (view (Searching k x top high low) len ta ma fl ls)
   unfolding view
   retreat_open {l = l} he lt fe be le q =
       let q' : l ≡ min low (mark_at ma 5 x) = le ∙ ap (min low) be in
-      state_eq (q ∙ ap (λ (u : ℕ). back_open G k (named G u) top high l) fe ∙ ap (back_open G k (named G (mark_at ma 1 x)) top high) q') refl refl refl refl refl refl refl refl refl
+      state_eq (q ∙ ap (λ (u : List ℕ). back_open G k u top high l) fe ∙ ap (back_open G k (named G (mark_at ma 1 x)) top high) q') refl refl refl refl refl refl refl refl refl
       ∙ sym (transition_leave_open G (view (Searching k x top high low) len ta ma fl ls) k x top high low refl none (let g : low < mark_at ma 3 x = omega arith in g))
 
   pub retreat_close : {h : ℕ} → h ≡ mark_at ma 3 x → h ≤ low → view (Closing k x top high) len ta ma fl ls ≡ transition G (view (Searching k x top high low) len ta ma fl ls)
@@ -85,21 +53,21 @@ module _ {G : Graph} {n x : ℕ} {ta ma : List ℕ} (a : AtLoopLast G n x ta ma)
 -- ---- a node is closed
 
 module _ (G : Graph) (k x top high len : ℕ) (ta ma fl ls : List ℕ) (r : mark_words ≤ length ma) where
-  pub close_last : {p : Place} {f b l rest : ℕ} → x < 2048 → top ≡ x → rest ≡ high - 1 → b ≡ mark_at ma 4 top → f ≡ mark_at ma 1 x → l ≡ mark_at ma 5 x → p ≡ back_closed G k (named G f) (named G b) rest l →
+  pub close_last : {p : Place} {l rest : ℕ} {from below : List ℕ} → x < 2048 → top ≡ x → rest ≡ high - 1 → below ≡ named G (mark_at ma 4 top) → from ≡ named G (mark_at ma 1 x) → l ≡ mark_at ma 5 x → p ≡ back_closed G k from below rest l →
       view p len ta (set ma (x * 6 + 3) 0) fl ls ≡ transition G (view (Closing k x top high) len ta ma fl ls)
   unfolding view
-  close_last {p} {f} {b} {l} {rest} h e re be fe le q =
+  close_last {p} {l} {rest} {from} {below} h e re be fe le q =
       closed ma x h r (Closing k x top high) p len ta fl ls
       ∙ ap (close (view (Closing k x top high) len ta ma fl ls) x)
-      (q ∙ ap (λ (u : ℕ). back_closed G k (named G u) (named G b) rest l) fe ∙ ap (λ (u : ℕ). back_closed G k (named G (mark_at ma 1 x)) (named G u) rest l) (be ∙ ap (mark_at ma 4) e)
+      (q ∙ ap (λ (u : List ℕ). back_closed G k u below rest l) fe ∙ ap (λ (u : List ℕ). back_closed G k (named G (mark_at ma 1 x)) u rest l) (be ∙ ap (λ (u : ℕ). named G (mark_at ma 4 u)) e)
       ∙ ap (λ (u : ℕ). back_closed G k (named G (mark_at ma 1 x)) (named G (mark_at ma 4 x)) u l) re ∙ ap (back_closed G k (named G (mark_at ma 1 x)) (named G (mark_at ma 4 x)) (high - 1)) le)
       ∙ sym (transition_complete G (view (Closing k x top high) len ta ma fl ls) k x top high refl e)
 
-  pub close_newer : {p : Place} {b rest : ℕ} → top < 2048 → top ≢ x → rest ≡ high - 1 → b ≡ mark_at ma 4 top → p ≡ next_open G k x (named G b) rest →
+  pub close_newer : {p : Place} {rest : ℕ} {below : List ℕ} → top < 2048 → top ≢ x → rest ≡ high - 1 → below ≡ named G (mark_at ma 4 top) → p ≡ next_open G k x below rest →
       view p len ta (set ma (top * 6 + 3) 0) fl ls ≡ transition G (view (Closing k x top high) len ta ma fl ls)
   unfolding view
-  close_newer {p} {b} {rest} h e re be q =
+  close_newer {p} {rest} {below} h e re be q =
       closed ma top h r (Closing k x top high) p len ta fl ls
       ∙ ap (close (view (Closing k x top high) len ta ma fl ls) top)
-      (q ∙ ap (λ (u : ℕ). next_open G k x (named G u) rest) be ∙ ap (next_open G k x (named G (mark_at ma 4 top))) re)
+      (q ∙ ap (λ (u : List ℕ). next_open G k x u rest) be ∙ ap (next_open G k x (named G (mark_at ma 4 top))) re)
       ∙ sym (transition_close G (view (Closing k x top high) len ta ma fl ls) k x top high refl e)

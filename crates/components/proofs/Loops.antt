@@ -8,26 +8,16 @@ use native.Mathlib.Numerals.{add-one}
 use native.Mathlib.Omega.{arith}
 use lib.ListN.{length, set, drop}
 use lib.Seq.{drop-cons}
-use borrow.Author.Tests.{le-ltb, lt-ltb}
 use Rattle.graph.specs.Members.{put, numbers, raised}
 use Rattle.graph.specs.Graph.{Graph}
 use Rattle.graph.specs.Transition.{led, searched_to, discover, transition}
 use Rattle.graph.proofs.Laws.Transitions.{state_eq, transition_seek, transition_skip, transition_discover, transition_cross, transition_tie}
 use Rattle.graph.specs.declared.Place.{Place}
-use Rattle.graph.specs.declared.Place.TheVariants.{Starting, Searching, Between}
+use Rattle.graph.specs.declared.Place.TheVariants.{Starting, Searching}
 use Rattle.marks.specs.Inner.Memory.{view, mark_at, mark_words, fill, flagged_at, AtSeek, AtLoopLink}
 use Rattle.marks.proofs.Slices.{mark_set, mark_keep, raised_flagged, length_fill, fill_at, fill_before, fill_behind}
 
 -- ---- places
-
-module _ {n : ℕ} (G : Graph) (s : n ≡ G.size) where
-  pub searched_more : {k : ℕ} → k < n → Starting k ≡ searched_to G k
-  unfolding searched_to
-  searched_more {k} h = let q : k < G.size = omega arith in rw (lt-ltb _ _ q) refl
-
-  pub searched_over : {k : ℕ} → n ≤ k → Between 0 ≡ searched_to G k
-  unfolding searched_to
-  searched_over {k} h = let q : G.size ≤ k = omega arith in rw (le-ltb _ _ q) refl
 
 -- the search after k
 pub next_search : (G : Graph) (k : ℕ) {p : Place} → p ≡ searched_to G (k + 1) → p ≡ searched_to G (suc k)

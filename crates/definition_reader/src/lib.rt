@@ -46,12 +46,7 @@ pub fn read_definition(
         bytes: from.bytes + n,
     };
     let done = expressions::read_conditional(text, behind, 0, 0, words, bytes)?;
-    ad::store_definition(
-        words,
-        d,
-        from.bytes as u64,
-        n as u64,
-        (done.nodes - 1) as u64,
-    );
+    let root = done.nodes - 1;
+    ad::store_definition(words, d, from.bytes as u64, n as u64, root as u64);
     Ok(done)
 }

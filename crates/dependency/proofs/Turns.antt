@@ -18,17 +18,15 @@ use Rattle.graph.proofs.Laws.Numbers.{Small, small_transitions, small_first}
 use Rattle.graph.proofs.Laws.Transitions.{state_eq}
 use Rattle.graph.specs.declared.Place.{Place}
 use Rattle.graph.specs.declared.Place.TheVariants.{Resolving, Starting, Searching, Closing, Between, Inside}
-use Rattle.links.specs.Pair.{pair_graph}
-use Rattle.links.specs.Inner.Asked.{Measured}
-use Rattle.links.specs.Laws.Soundness.{pair_sound}
-use Rattle.links.specs.Laws.Numbering.{pair_size}
+use Rattle.links.specs.Graphs.{graph_of}
+use Rattle.links.specs.declared.pair.AdPair.{AdPair}
 use Rattle.marks.specs.Inner.Memory.{view, marks_room, mark_words, Clear, Roomy, Grows}
 use Rattle.dependency.specs.Traversal.{Traversed}
 use Rattle.dependency.specs.Inner.Asked.{ended_at, Ready}
 use Rattle.transitions.specs.Inner.Asked.{PlaceFits, FlaggedFrom}
 use Rattle.dependency.specs.Laws.Use.{clear_zeros}
 use Rattle.transitions.specs.Laws.Next.{slots_fit, place_fits}
-use Rattle.transitions.proofs.Steps.{nodes_few, size_is}
+use Rattle.transitions.proofs.Steps.{sound, size_few}
 
 -- a mark within the slots is what it records
 recorded_is :
@@ -209,82 +207,60 @@ module _ (G : Graph) (S : Sound G) where
 
 -- ---- two stored ads
 
--- what holds at each turn of the loop: n list searches, and slices as long as they were
-pub record Turn (v b w c roots : List ℕ) (nv dv nw dw n count : ℕ) (pl : Place) (len : ℕ) (ta₀ ma₀ fl₀ ls₀ ta ma fl ls : List ℕ) : Type 0 where
-  pub first_is : Measured v nv dv
-  pub second_is : Measured w nw dw
-  pub roots_are : roots ≡ (pair_graph v b w c).roots
+-- what holds at each turn of the loop: n list searches
+pub record Turn (p : AdPair) (roots : List ℕ) (n count : ℕ) (pl : Place) (len : ℕ) (ta ma fl ls : List ℕ) : Type 0 where
+  pub roots_are : roots ≡ (graph_of p).roots
   pub searches_are : n ≡ length roots
-  pub going : Going (pair_graph v b w c) (pair_sound v b w c first_is.formed second_is.formed) count pl len ta ma fl ls
-  pub ta_same : length ta ≡ length ta₀
-  pub ma_same : length ma ≡ length ma₀
-  pub fl_same : length fl ≡ length fl₀
-  pub ls_same : length ls ≡ length ls₀
+  pub going : Going (graph_of p) (sound p) count pl len ta ma fl ls
 
-pub turn_first : {v w : List ℕ} (b c : List ℕ) {roots : List ℕ} {nv dv nw dw n : ℕ} {pl : Place} {len : ℕ} {ta ma fl ls : List ℕ} → Measured v nv dv → Measured w nw dw →
-    roots ≡ (pair_graph v b w c).roots → Ready ta fl ls → ma ≡ replicate mark_words 0 → n ≡ length roots → pl ≡ cond (ltb 0 (nv + nw)) (Resolving 0) (Between 0) → len ≡ 0 →
-    Turn v b w c roots nv dv nw dw n 0 pl len ta ma fl ls ta ma fl ls
-turn_first {v} {w} b c p q re r me ne e z = record {
-  first_is = p;
-  second_is = q;
+pub turn_first : (p : AdPair) {roots : List ℕ} {m n : ℕ} {pl : Place} {ta ma fl ls : List ℕ} →
+    roots ≡ (graph_of p).roots → Ready ta fl ls → ma ≡ replicate mark_words 0 → n ≡ length roots → m ≡ (graph_of p).size → pl ≡ cond (ltb 0 m) (Resolving 0) (Between 0) →
+    Turn p roots n 0 pl 0 ta ma fl ls
+turn_first p re r me ne se e = record {
   roots_are = re;
   searches_are = ne;
-  going = going_first (pair_graph v b w c) (pair_sound v b w c p.formed q.formed) (e ∙ ap (λ (u : ℕ). cond (ltb 0 u) (Resolving 0) (Between 0)) (size_is p q b c)) z
+  going = going_first (graph_of p) (sound p) (e ∙ ap (λ (u : ℕ). cond (ltb 0 u) (Resolving 0) (Between 0)) se) refl
       (record { target_room = r.target_room; marks_room_lem = let h = ap length me in let k = length-replicate {A = ℕ} mark_words 0 in omega arith; flag_room = r.flag_room; list_room_lem = r.list_room_lem })
       r.target_clear (subst Clear (sym me) (clear_zeros mark_words)) r.flag_clear r.list_clear;
-  ta_same = refl;
-  ma_same = refl;
-  fl_same = refl;
-  ls_same = refl;
 }
 
-module _ {v b w c roots : List ℕ} {nv dv nw dw n count : ℕ} {pl : Place} {len : ℕ} {ta₀ ma₀ fl₀ ls₀ ta ma fl ls : List ℕ}
-    (t : Turn v b w c roots nv dv nw dw n count pl len ta₀ ma₀ fl₀ ls₀ ta ma fl ls) {r : Bool} (e : r ≡ ended_at pl n) where
-  abbrev S : Sound (pair_graph v b w c)
-  S = pair_sound v b w c t.first_is.formed t.second_is.formed
-
-  all_searches : n ≡ searches (pair_graph v b w c)
+module _ {p : AdPair} {roots : List ℕ} {n count : ℕ} {pl : Place} {len : ℕ} {ta ma fl ls : List ℕ}
+    (t : Turn p roots n count pl len ta ma fl ls) {r : Bool} (e : r ≡ ended_at pl n) where
+  all_searches : n ≡ searches (graph_of p)
   unfolding searches
   all_searches = t.searches_are ∙ ap length t.roots_are
 
-  pub turn_end : r ≡ true → Traversed (pair_graph v b w c) count len ta fl ls
-  turn_end h = going_end (pair_graph v b w c) S t.going all_searches (sym e ∙ h)
+  pub turn_end : r ≡ true → Traversed (graph_of p) count len ta fl ls
+  turn_end h = going_end (graph_of p) (sound p) t.going all_searches (sym e ∙ h)
 
-  pub turn_small : r ≡ false → count < 16 * (pair_graph v b w c).size
-  turn_small h = count_small (pair_graph v b w c) S t.going all_searches (sym e ∙ h)
-
-  size_small : (pair_graph v b w c).size ≤ 2048
-  size_small = let a = pair_size v b w c in let h = nodes_few t.first_is t.second_is in omega arith
+  pub turn_small : r ≡ false → count < 16 * (graph_of p).size
+  turn_small h = count_small (graph_of p) (sound p) t.going all_searches (sym e ∙ h)
 
   pub turn_count : r ≡ false → count < 32768
-  turn_count h = let a = turn_small h in let s = size_small in omega arith
+  turn_count h = let a = turn_small h in let s = size_few p in omega arith
 
-  pub turn_fits : r ≡ false → PlaceFits v w (length roots) len ls pl
+  pub turn_fits : r ≡ false → PlaceFits p.first.ad.words.now p.second.ad.words.now (length roots) len ls pl
   unfolding view
   turn_fits h =
-      go (place_fits v b w c _ len ls pl (in_range (pair_graph v b w c) S t.going) (small (pair_graph v b w c) S t.going (slots_fit v b w c)).place_small
-      (λ k x q. room_in (pair_graph v b w c) S t.going k x q size_small))
+      go
+      (place_fits p.first.ad.words.now p.first.ad.bytes.now p.second.ad.words.now p.second.ad.bytes.now _ len ls pl (in_range (graph_of p) (sound p) t.going)
+      (small (graph_of p) (sound p) t.going (slots_fit p.first.ad.words.now p.first.ad.bytes.now p.second.ad.words.now p.second.ad.bytes.now)).place_small
+      (λ k x q. room_in (graph_of p) (sound p) t.going k x q (size_few p)))
     where
-      go : (pl ≡ Between (searches (pair_graph v b w c))) ⊎ PlaceFits v w (searches (pair_graph v b w c)) len ls pl → PlaceFits v w (length roots) len ls pl
+      go : (pl ≡ Between (searches (graph_of p))) ⊎ PlaceFits p.first.ad.words.now p.second.ad.words.now (searches (graph_of p)) len ls pl →
+          PlaceFits p.first.ad.words.now p.second.ad.words.now (length roots) len ls pl
       go (inl q) =
-          let a : leb n (searches (pair_graph v b w c)) ≡ false = ap (λ (u : Place). ended_at u n) (sym q) ∙ sym e ∙ h in
-          let k : searches (pair_graph v b w c) < n = leb-false _ _ a in
+          let a : leb n (searches (graph_of p)) ≡ false = ap (λ (u : Place). ended_at u n) (sym q) ∙ sym e ∙ h in
+          let k : searches (graph_of p) < n = leb-false _ _ a in
           let d = all_searches in
           absurd (let z : ⊥ = omega arith in z)
-      go (inr f) = subst (λ (m : ℕ). PlaceFits v w m len ls pl) (sym all_searches ∙ t.searches_are) f
+      go (inr f) = subst (λ (m : ℕ). PlaceFits p.first.ad.words.now p.second.ad.words.now m len ls pl) (sym all_searches ∙ t.searches_are) f
 
   pub turn_next : {pl' : Place} {len' : ℕ} {ta' ma' fl' ls' : List ℕ} → r ≡ false →
-      (view pl' len' ta' ma' fl' ls' ≡ transition (pair_graph v b w c) (view pl len ta ma fl ls)) × (Grows len len' ls ls' × FlaggedFrom pl fl fl') →
-      length ta' ≡ length ta → length ma' ≡ length ma → length fl' ≡ length fl → length ls' ≡ length ls →
-      Turn v b w c roots nv dv nw dw n (count + 1) pl' len' ta₀ ma₀ fl₀ ls₀ ta' ma' fl' ls'
-  turn_next h m e₁ e₂ e₃ e₄ = record {
-    first_is = t.first_is;
-    second_is = t.second_is;
+      view pl' len' ta' ma' fl' ls' ≡ transition (graph_of p) (view pl len ta ma fl ls) → Grows len len' ls ls' → FlaggedFrom pl fl fl' →
+      length ta' ≡ length ta → length ma' ≡ length ma → length fl' ≡ length fl → length ls' ≡ length ls → Turn p roots n (count + 1) pl' len' ta' ma' fl' ls'
+  turn_next h s g fe e₁ e₂ e₃ e₄ = record {
     roots_are = t.roots_are;
     searches_are = t.searches_are;
-    going = going_next (pair_graph v b w c) S t.going all_searches (sym e ∙ h) m.0 m.1.0 m.1.1 e₁ e₂ e₃ e₄;
-    ta_same = e₁ ∙ t.ta_same;
-    ma_same = e₂ ∙ t.ma_same;
-    fl_same = e₃ ∙ t.fl_same;
-    ls_same = e₄ ∙ t.ls_same;
+    going = going_next (graph_of p) (sound p) t.going all_searches (sym e ∙ h) s g fe e₁ e₂ e₃ e₄;
   }

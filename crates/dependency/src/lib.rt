@@ -1,17 +1,16 @@
 // Dependencies: the traversal of two stored ads, which finds the circular references and the list.
 #![tactic(auto)]
 
-ghost use Rattle.std.specs.Prelude.{◌≡◌, cond, ◌+◌, ◌<◌, length, replicate, ltb};
+ghost use Rattle.std.specs.Prelude.{◌≡◌, cond, ◌<◌, length, replicate, ltb};
 ghost use Rattle.graph.specs.declared.Place.TheVariants.{Resolving, Between};
-ghost use Rattle.links.specs.Pair.{pair_graph};
-ghost use Rattle.links.specs.Inner.Asked.{Measured, RootMarks, Fingerprints};
+ghost use Rattle.links.specs.Graphs.{graph_of, RootsOf};
 ghost use Rattle.marks.specs.Inner.Memory.{mark_words};
 ghost use Rattle.dependency.specs.Traversal.{Traversed};
 ghost use Rattle.dependency.specs.Inner.Asked.{ended_at, Ready};
 
 use graph::Place;
-use links::Counts;
-use lookup::Roots;
+use links::AdPair;
+use lookup::{PrintedPair, Roots};
 use marks::Position;
 
 // How many transitions the traversal took, how long the list is, and where it began.
@@ -29,19 +28,14 @@ struct Taken {
     length: usize,
 }
 
-// Where the traversal of n nodes begins, with an empty list.
-fn first_position(n: usize) -> Position
-    ensures { (result.place ≡ cond (ltb 0 n) (Resolving 0) (Between 0)) × (result.len ≡ 0) }
+// Where the traversal of n nodes begins.
+fn first_place(n: usize) -> Place
+    ensures { result ≡ cond (ltb 0 n) (Resolving 0) (Between 0) }
 {
     if 0 < n {
-        return Position {
-            place: Place::Resolving(0),
-            len: 0,
-        };
-    }
-    Position {
-        place: Place::Between(0),
-        len: 0,
+        Place::Resolving(0)
+    } else {
+        Place::Between(0)
     }
 }
 
@@ -50,119 +44,63 @@ fn ended(place: Place, n: usize) -> bool
     ensures { result ≡ ended_at place n }
 {
     match place {
-        Place::Resolving(_) => false,
-        Place::Starting(_) => false,
-        Place::Searching(_, _, _, _, _) => false,
-        Place::Closing(_, _, _, _) => false,
         Place::Between(k) => n <= k,
-        Place::Inside(_, _) => false,
+        _ => false,
     }
 }
 
 // The transitions one after another, until no search is left.
 fn run(
-    first_words: &[u64],
-    first_bytes: &[u8],
-    p: Counts,
-    second_words: &[u64],
-    second_bytes: &[u8],
-    q: Counts,
-    prints: &[u32],
+    pair: PrintedPair<'_>,
     roots: &[usize],
     target: &mut [usize],
     marks: &mut [u16],
     flag: &mut [usize],
     list: &mut [u64],
 ) -> Taken
-    requires ads { Measured first_words.now p.nodes p.definitions × Measured second_words.now q.nodes q.definitions × (roots.now ≡ (pair_graph first_words.now first_bytes.now second_words.now second_bytes.now).roots) × Fingerprints first_words.now first_bytes.now second_words.now second_bytes.now prints.now }
+    requires roots { roots.now ≡ (graph_of pair.ads).roots }
     requires ready { Ready target.old flag.old list.old × (marks.old ≡ replicate mark_words 0) }
-    ensures { Traversed (pair_graph first_words.now first_bytes.now second_words.now second_bytes.now) result.count result.length target.new flag.new list.new }
+    ensures { Traversed (graph_of pair.entry.ads) result.count result.length target.new flag.new list.new }
 {
     let n = roots.len();
-    let mut s = first_position(p.nodes + q.nodes);
+    let mut s = Position {
+        place: first_place(pair.ads.size()),
+        len: 0,
+    };
     let mut count: usize = 0;
-    loop {
-        let at = s.place;
-        if ended(at, n) {
-            return Taken {
-                count: count,
-                length: s.len,
-            };
-        }
-        s = transitions::transition(
-            first_words,
-            first_bytes,
-            p,
-            second_words,
-            second_bytes,
-            q,
-            prints,
-            roots,
-            s,
-            target,
-            marks,
-            flag,
-            list,
-        );
+    while !ended(s.place, n) {
+        s = transitions::transition(pair, roots, s, target, marks, flag, list);
         count += 1;
+    }
+    Taken {
+        count,
+        length: s.len,
     }
 }
 
-// The traversal of two stored ads, whose counts are given: from clear targets, flags and an empty list, each of 2,048 numbers or more,
-// to the targets and flags of their references and the list. The other marks are its own.
+// The traversal of two stored ads: from clear targets, flags and an empty list, each of 2,048 numbers or more, to the targets and flags
+// of their references and the list. The other marks are its own.
 pub fn traverse(
-    first_words: &[u64],
-    first_bytes: &[u8],
-    first_counts: Counts,
-    second_words: &[u64],
-    second_bytes: &[u8],
-    second_counts: Counts,
+    ads: AdPair<'_>,
     target: &mut [usize],
     flag: &mut [usize],
     list: &mut [u64],
 ) -> Traversal
-    requires ads { Measured first_words.now first_counts.nodes first_counts.definitions × Measured second_words.now second_counts.nodes second_counts.definitions }
-    requires ready { Ready target.old flag.old list.old }
-    ensures traversed { Traversed (pair_graph first_words.now first_bytes.now second_words.now second_bytes.now) result.count result.length target.new flag.new list.new }
-    ensures roots { RootMarks first_words.now first_bytes.now second_words.now second_bytes.now result.roots.first_requirements result.roots.second_requirements result.roots.first_rank result.roots.second_rank }
+    requires { Ready target.old flag.old list.old }
+    ensures traversed { Traversed (graph_of ads.entry) result.count result.length target.new flag.new list.new }
+    ensures roots { RootsOf ads.entry result.roots.first_requirements result.roots.second_requirements result.roots.first_rank result.roots.second_rank }
 {
     let mut prints = [0u32; 512];
-    lookup::fingerprints(
-        first_words,
-        first_bytes,
-        first_counts,
-        second_words,
-        second_bytes,
-        second_counts,
-        &mut prints,
-    );
-    let r = lookup::find_roots(
-        first_words,
-        first_bytes,
-        first_counts,
-        second_words,
-        second_bytes,
-        second_counts,
-        &prints,
-    );
+    lookup::fingerprints(ads, &mut prints);
+    let pair = PrintedPair {
+        ads,
+        prints: &prints,
+    };
+    let r = pair.find_roots();
     let mut room = [0usize; 4];
     let n = lookup::list_roots(r, &mut room);
-    let roots = &room[..n];
     let mut marks = [0u16; 12288];
-    let t = run(
-        first_words,
-        first_bytes,
-        first_counts,
-        second_words,
-        second_bytes,
-        second_counts,
-        &prints,
-        roots,
-        target,
-        &mut marks,
-        flag,
-        list,
-    );
+    let t = run(pair, &room[..n], target, &mut marks, flag, list);
     Traversal {
         count: t.count,
         length: t.length,

@@ -1,3 +1,4 @@
 pub mod Evaluation
 pub mod Inner
 pub mod Laws
+pub mod Marked

@@ -71,17 +71,11 @@ fn read_arms(
         ..first
     };
     let second = read_conditional(text, behind, depth + 1, begun + 1, words, bytes)?;
-    let (a, b, c) = (from.nodes - 1, first.nodes - 1, second.nodes - 1);
-    ad::store_node(
-        words,
-        second.nodes,
-        Kind::Conditional,
-        a as u64,
-        b as u64,
-        c as u64,
-    );
+    let n = second.nodes;
+    let (a, b, c) = (from.nodes - 1, first.nodes - 1, n - 1);
+    ad::store_node(words, n, Kind::Conditional, a as u64, b as u64, c as u64);
     Ok(Progress {
-        nodes: second.nodes + 1,
+        nodes: n + 1,
         ..second
     })
 }

@@ -5,3 +5,4 @@ pub mod Layout
 pub mod Numbering
 pub mod Roots
 pub mod Finding
+pub mod Kinds

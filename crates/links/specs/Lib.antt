@@ -1,3 +1,4 @@
 pub mod Pair
 pub mod Inner
 pub mod Laws
+pub mod Graphs

@@ -3,7 +3,7 @@ use mathlib.Core.Path.{◌≡◌, refl, sym, ap, ◌∙◌}
 use mathlib.Core.Logic.{◌≢◌}
 use mathlib.Core.Bool.{cond}
 use mathlib.Core.List.{List, [], ◌∷◌, ◌++◌}
-use Prim.Native.Nat.{ℕ, suc, ◌+◌, ◌-◌, ◌*◌, ◌≤◌, ◌<◌}
+use Prim.Native.Nat.{ℕ, suc, ◌+◌, ◌*◌, ◌≤◌, ◌<◌}
 use native.Mathlib.Numerals.{add-one}
 use native.Mathlib.Omega.{arith}
 use lib.ListN.{length, set, take, drop, drop_of_length-le}
@@ -11,19 +11,12 @@ use lib.Seq.{drop-cons, get_or-set_other, take-suc-set}
 use borrow.Author.Tests.{le-ltb, lt-ltb}
 use Rattle.graph.specs.Members.{put, numbers, raised}
 use Rattle.graph.specs.Graph.{Graph}
-use Rattle.graph.specs.Transition.{named, needed, back, marked, searched_to, resolved_to, transition}
+use Rattle.graph.specs.Transition.{needed, back, marked, searched_to, resolved_to, transition}
 use Rattle.graph.proofs.Laws.Transitions.{state_eq, transition_resolve, transition_begin, transition_omit, transition_pass, transition_enter, transition_leave}
 use Rattle.graph.specs.declared.Place.{Place}
 use Rattle.graph.specs.declared.Place.TheVariants.{Resolving, Starting, Between, Inside}
-use Rattle.marks.specs.Inner.Memory.{view, mark_at, marks_room, mark_words, fill, AtNode, AtStart, AtLink, AtLast, Grows}
-use Rattle.marks.proofs.Slices.{names_none, names_some, numbers_set, mark_set, mark_keep, fill_at, fill_behind}
-
-module _ (G : Graph) (k : ℕ) {r : ℕ} {f : List ℕ} (e : named G r ≡ f) where
-  pub back_none : r ≡ 0 → Between (k + 1) ≡ back k f
-  back_none z = ap Between (add-one k) ∙ ap (back k) (names_none G e z)
-
-  pub back_some : G.slots ≡ marks_room → r ≢ 0 → r ≤ 2048 → Inside k (r - 1) ≡ back k f
-  back_some s n h = ap (back k) (names_some G e s n h)
+use Rattle.marks.specs.Inner.Memory.{view, mark_at, mark_words, fill, AtNode, AtStart, AtLink, AtLast, Grows}
+use Rattle.marks.proofs.Slices.{numbers_set, mark_set, mark_keep, fill_at, fill_behind}
 
 -- ---- a node is resolved
 
@@ -123,14 +116,14 @@ module _ {G : Graph} {x y i : ℕ} {ta ma fl : List ℕ} (a : AtLink G x y i ta 
 
 -- ---- a node is left
 
-pub leave_lists : {G : Graph} {x f : ℕ} {ta ma fl : List ℕ} → AtLast G x f ta ma fl → (k len : ℕ) (ls : List ℕ) {p : Place} {v : ℕ} → (G.slots ≡ marks_room → p ≡ back k (named G f)) → v ≡ x + 1 → len < length ls →
-    view p (len + 1) ta ma fl (set ls len v) ≡ transition G (view (Inside k x) len ta ma fl ls)
+pub leave_lists : {G : Graph} {x : ℕ} {from ta ma fl : List ℕ} → AtLast G x from ta ma fl → (k len : ℕ) (ls : List ℕ) {p : Place} → p ≡ back k from → len < length ls →
+    view p (len + 1) ta ma fl (set ls len (x + 1)) ≡ transition G (view (Inside k x) len ta ma fl ls)
 unfolding view
-leave_lists {G} {x} {ta = ta} {ma} {fl} a k len ls {v = v} e q lt =
-    let w : take (len + 1) (set ls len v) ≡ take len ls ++ suc x ∷ [] = rw (add-one len) (take-suc-set ls len v lt ∙ ap (λ (u : ℕ). take len ls ++ u ∷ []) (q ∙ add-one x)) in
+leave_lists {G} {x} {ta = ta} {ma} {fl} a k len ls e lt =
+    let w : take (len + 1) (set ls len (x + 1)) ≡ take len ls ++ suc x ∷ [] = rw (add-one len) (take-suc-set ls len (x + 1) lt ∙ ap (λ (u : ℕ). take len ls ++ u ∷ []) (add-one x)) in
     sym
     (transition_leave G (view (Inside k x) len ta ma fl ls) k x refl (drop_of_length-le (needed G (numbers ta) (raised fl) x) a.over)
-    ∙ state_eq (sym (e a.slots_are ∙ ap (λ (u : ℕ). back k (named G u)) a.from_is)) refl refl refl refl refl refl refl refl (sym w))
+    ∙ state_eq (sym (e ∙ ap (back k) a.from_is)) refl refl refl refl refl refl refl refl (sym w))
 
 pub grows_one : (len v : ℕ) (ls : List ℕ) → len < length ls → Grows len (len + 1) ls (set ls len v)
 grows_one len v ls h = record {

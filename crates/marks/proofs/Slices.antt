@@ -45,14 +45,6 @@ unfolding flagged_at
 raised_flagged l x true h = raised_set l x h ∙ ap (put (raised l) x) (sym (or-true (raised l x)))
 raised_flagged l x false h = put_idle (raised l) x ∙ ap (put (raised l) x) (sym (or-false (raised l x)))
 
-pub flagged_yes : (l : List ℕ) (x : ℕ) {b : Bool} → b ≡ true → set l x 1 ≡ flagged_at l x b
-unfolding flagged_at
-flagged_yes l x e = rw e refl
-
-pub flagged_no : (l : List ℕ) (x : ℕ) {b : Bool} → b ≡ false → l ≡ flagged_at l x b
-unfolding flagged_at
-flagged_no l x e = rw e refl
-
 -- the flag that a link passed sets, or none
 pub flagged_by : (before : List ℕ) (x : ℕ) (b : Bool) {after : List ℕ} → after ≡ flagged_at before x b → Flagged x before after
 unfolding flagged_at
@@ -61,17 +53,16 @@ flagged_by before x false e = inl e
 
 -- ---- what a mark names
 
-pub names_far : (G : Graph) (f : ℕ) → G.slots ≡ marks_room → 2048 < f → named G 0 ≡ named G f
-unfolding named
-names_far G zero s h = refl
-names_far G (suc y) s h = rw (le-ltb _ _ (let q : G.slots ≤ y = omega arith in q)) refl
+module _ (G : Graph) (m : ℕ) (s : G.slots ≡ marks_room) where
+  pub names_none : m < 1 → [] ≡ named G m
+  names_none h = sym (named_none G (let q : m ≡ 0 = omega arith in q))
 
-module _ (G : Graph) {r : ℕ} {l : List ℕ} (e : named G r ≡ l) where
-  pub names_none : r ≡ 0 → [] ≡ l
-  names_none z = sym (named_none G z) ∙ e
+  pub names_far : 2048 < m → [] ≡ named G m
+  unfolding named
+  names_far h = let e : m ≡ suc (m - 1) = omega arith in rw (e, le-ltb _ _ (let q : G.slots ≤ m - 1 = omega arith in q)) refl
 
-  pub names_some : G.slots ≡ marks_room → r ≢ 0 → r ≤ 2048 → (r - 1) ∷ [] ≡ l
-  names_some s n h = sym (named_of G (let q : r ≡ suc (r - 1) = omega arith in q) (let q : r - 1 < G.slots = omega arith in q)) ∙ e
+  pub names_some : 1 ≤ m → m ≤ 2048 → (m - 1) ∷ [] ≡ named G m
+  names_some n h = sym (named_of G (let q : m ≡ suc (m - 1) = omega arith in q) (let q : m - 1 < G.slots = omega arith in q))
 
 -- ---- marks
 

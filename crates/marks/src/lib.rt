@@ -4,7 +4,8 @@
 ghost use Rattle.std.specs.Prelude.{◌≡◌, [], ◌∷◌, ◌+◌, ◌*◌, ◌≤◌, ◌<◌, length, set};
 ghost use Rattle.graph.specs.Graph.{Graph};
 ghost use Rattle.graph.specs.Transition.{named};
-ghost use Rattle.marks.specs.Inner.Memory.{mark_at, marks_room, mark_words, fill};
+ghost use Rattle.marks.specs.Inner.Marks.{index_of};
+ghost use Rattle.marks.specs.Inner.Memory.{mark_at, marks_room, mark_words, fill, nodes_of};
 
 use graph::Place;
 
@@ -19,89 +20,84 @@ const PER_NODE: usize = 6;
 
 const SLOTS: usize = 2048;
 
-// 1 once a loop search has seen the node, 2 once a list search has
-pub const STAMP: usize = 0;
-
-// one more than the node from which it was entered
-pub const FROM: usize = 1;
-
-// how many of its links were followed
-pub const FOLLOWED: usize = 2;
-
-// its height among the open nodes
-pub const HEIGHT: usize = 3;
-
-// one more than the next older open node
-pub const BELOW: usize = 4;
-
-// the least height to which the node that it was entered from was then known to lead
-pub const SAVED: usize = 5;
-
-fn wide(x: u16) -> usize
-    ensures { result ≡ x }
-{
-    x as usize
+// A mark of a node.
+#[derive(Clone, Copy)]
+pub enum Mark {
+    // 1 once a loop search has seen the node, 2 once a list search has
+    Stamp,
+    // one more than the node from which it was entered
+    From,
+    // how many of its links were followed
+    Followed,
+    // its height among the open nodes
+    Height,
+    // one more than the next older open node
+    Below,
+    // the least height to which the node that it was entered from was then known to lead
+    Saved,
 }
 
-// Mark j of the node x.
-pub fn read(marks: &[u16], x: usize, j: usize) -> usize
-    requires { (x < marks_room) × (j < 6) × (mark_words ≤ length marks.now) }
-    ensures { result ≡ mark_at marks.now j x }
+// Where a mark of the node x is kept.
+fn place(x: usize, mark: Mark) -> usize
+    requires { x < marks_room }
+    ensures value { result ≡ x * 6 + index_of mark }
+    ensures small { result < mark_words }
 {
-    wide(marks[x * PER_NODE + j])
+    x * PER_NODE + mark as usize
 }
 
-// How many links of the node x were followed.
-pub fn followed(marks: &[u16], x: usize) -> usize
+// A mark of the node x.
+pub fn read(marks: &[u16], x: usize, mark: Mark) -> usize
     requires { (x < marks_room) × (mark_words ≤ length marks.now) }
-    ensures { result ≡ mark_at marks.now 2 x }
+    ensures { result ≡ mark_at marks.now (index_of mark) x }
 {
-    read(marks, x, FOLLOWED)
+    usize::from(marks[place(x, mark)])
 }
 
-// From which node x was entered: one more than that, 0 for none.
-pub fn entered_from(marks: &[u16], x: usize) -> usize
-    requires { (x < marks_room) × (mark_words ≤ length marks.now) }
-    ensures { result ≡ mark_at marks.now 1 x }
+// A mark of the node x becomes a.
+pub fn write(marks: &mut [u16], x: usize, mark: Mark, a: usize)
+    requires { (x < marks_room) × (a < 65536) × (mark_words ≤ length marks.old) }
+    ensures { marks.new ≡ set marks.old (x * 6 + index_of mark) a }
 {
-    read(marks, x, FROM)
+    marks[place(x, mark)] = a as u16;
 }
 
-// The mark, or 0 where it names no slot: any mark, right or wrong, then names a node with marks or none.
-pub fn in_slots(mark: usize) -> usize
-    ensures result_value { (G : Graph) → G.slots ≡ marks_room → named G result ≡ named G mark }
-    ensures small { result ≤ marks_room }
+// The node that a mark names: any mark, right or wrong, names a node with marks or none.
+fn in_slots(mark: usize) -> Option<usize>
+    ensures { (G : Graph) → G.slots ≡ marks_room → nodes_of result ≡ named G mark }
 {
-    if SLOTS < mark {
-        return 0;
+    match mark {
+        1..=SLOTS => Some(mark - 1),
+        _ => None,
     }
-    mark
 }
 
-// Mark j of the node x becomes a.
-pub fn write(marks: &mut [u16], x: usize, j: usize, a: usize)
-    requires { (x < marks_room) × (j < 6) × (a < 65536) × (mark_words ≤ length marks.old) }
-    ensures { marks.new ≡ set marks.old (x * 6 + j) a }
+// The node that a mark of the node x names.
+pub fn node(marks: &[u16], x: usize, mark: Mark) -> Option<usize>
+    requires { (x < marks_room) × (mark_words ≤ length marks.now) }
+    ensures { (G : Graph) → G.slots ≡ marks_room → nodes_of result ≡ named G (mark_at marks.now (index_of mark) x) }
 {
-    marks[x * PER_NODE + j] = a as u16;
+    in_slots(read(marks, x, mark))
 }
 
 // The node y is entered from p, by a search with the stamp t; none of its links was followed.
+#[tactic(auto, unfolding(crate::specs::Inner::Memory::fill))]
 pub fn enter(marks: &mut [u16], y: usize, t: usize, p: usize)
     requires { (y < marks_room) × (t < 65536) × (p < 65536) × (mark_words ≤ length marks.old) }
     ensures { marks.new ≡ fill marks.old y 0 (t ∷ p ∷ 0 ∷ []) }
 {
-    write(marks, y, STAMP, t);
-    write(marks, y, FROM, p);
-    write(marks, y, FOLLOWED, 0);
+    write(marks, y, Mark::Stamp, t);
+    write(marks, y, Mark::From, p);
+    write(marks, y, Mark::Followed, 0);
 }
 
 // The node y is open at the height h, above b, and low is saved with it.
+#[tactic(auto, unfolding(crate::specs::Inner::Memory::fill))]
 pub fn put_on(marks: &mut [u16], y: usize, h: usize, b: usize, low: usize)
     requires { (y < marks_room) × (h < 65536) × (b < 65536) × (low < 65536) × (mark_words ≤ length marks.old) }
     ensures { marks.new ≡ fill marks.old y 3 (h ∷ b ∷ low ∷ []) }
 {
-    write(marks, y, HEIGHT, h);
-    write(marks, y, BELOW, b);
-    write(marks, y, SAVED, low);
+    write(marks, y, Mark::Height, h);
+    write(marks, y, Mark::Below, b);
+    write(marks, y, Mark::Saved, low);
 }

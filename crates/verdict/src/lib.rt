@@ -1,8 +1,7 @@
 // Verdict and ranks, from the values that a match's table holds.
 #![tactic(auto)]
 
-ghost use Rattle.std.specs.Prelude.{◌≡◌, false, cond, ◌&&◌, ◌-◌, ◌^◌, ltb};
-ghost use Rattle.integers.specs.Integers.{width};
+ghost use Rattle.std.specs.Prelude.{◌≡◌, ◌&&◌};
 ghost use Rattle.verdict.specs.Verdict.{is_true, rank_of};
 ghost use Rattle.verdict.specs.Inner.Worth.{worth_at};
 
@@ -21,54 +20,28 @@ fn is_true(v: Value) -> bool
     ensures { result ≡ is_true v }
 {
     match v {
-        Value::Undefined => false,
-        Value::Error => false,
         Value::Boolean(b) => b,
-        Value::Integer(_) => false,
-        Value::Real(_) => false,
-        Value::String(_, _, _) => false,
+        _ => false,
     }
-}
-
-fn natural(x: u32) -> u32
-    ensures { result ≡ cond (ltb x (2 ^ (width - 1))) x 0 }
-{
-    if x < 0x8000_0000 {
-        return x;
-    }
-    0
 }
 
 fn rank_of(v: Value) -> u32
     ensures { result ≡ rank_of v }
 {
     match v {
-        Value::Undefined => 0,
-        Value::Error => 0,
-        Value::Boolean(_) => 0,
-        Value::Integer(x) => natural(x),
-        Value::Real(_) => 0,
-        Value::String(_, _, _) => 0,
+        Value::Integer(x) if x < 0x8000_0000 => x,
+        _ => 0,
     }
 }
 
-// The value that the table holds for a root, told by its mark; Undefined where there is none.
-fn worth(mark: usize, table: &[u64]) -> Value
-    ensures { result ≡ worth_at table.now mark }
+// The value that the table holds for a root; Undefined where there is none.
+fn worth(root: Option<usize>, table: &[u64]) -> Value
+    ensures { result ≡ worth_at table.now root }
 {
-    if mark == 0 {
-        return Value::Undefined;
+    match root {
+        Some(y) => evaluation::value_in(table, y),
+        None => Value::Undefined,
     }
-    evaluation::value_in(table, mark - 1)
-}
-
-fn both(x: bool, y: bool) -> bool
-    ensures { result ≡ (x && y) }
-{
-    if x {
-        return y;
-    }
-    false
 }
 
 // Both Requirements and both Ranks, from the table alone: it is lent no ad.
@@ -81,7 +54,7 @@ pub fn conclude(roots: Roots, table: &[u64]) -> Conclusion
     let i = rank_of(worth(roots.first_rank, table));
     let j = rank_of(worth(roots.second_rank, table));
     Conclusion {
-        matched: both(x, y),
+        matched: x && y,
         first_rank: i,
         second_rank: j,
     }

@@ -1,19 +1,29 @@
 -- What inner functions ensure. Assumes nothing.
-use Rattle.std.specs.Prelude.{ℕ, List, take}
-use Rattle.ad.specs.Layout.{ad_words}
-use Rattle.links.specs.Inner.Asked.{Measured}
-use Rattle.links.specs.declared.Counts.{Counts}
-use Rattle.admission.specs.Admission.{Refuses, Admits}
-use Rattle.admission.specs.declared.Admission.{Admission}
-use Rattle.admission.specs.declared.Admission.TheVariants.{Refused, Admitted}
+use Rattle.std.specs.Prelude.{ℕ, ◌≡◌, Result, Ok, Err, List, take}
+use Rattle.syntax.specs.Refusals.{number_of}
+use Rattle.syntax.specs.declared.Reason.{Reason}
+use Rattle.ad.specs.Layout.{ad_words, ad_bytes_room}
+use Rattle.links.specs.declared.pair.FormedAd.{FormedAd}
+use Rattle.links.specs.declared.pair.AdPair.{AdPair}
+use Rattle.admission.specs.Admission.{Well, Refuses, Admits}
 
--- two ads that are admitted, and their counts
-pub record AdmitsWith (v b w c : List ℕ) (lent room entries : ℕ) (p q : Counts) : Type 0 where
+-- an ad stands in the front of some memory
+pub record Fronts (w b : List ℕ) (p : FormedAd) : Type 0 where
+  pub words_are : p.ad.words.now ≡ take ad_words w
+  pub bytes_are : p.ad.bytes.now ≡ take ad_bytes_room b
+
+-- the well-formed ad in some memory, if there is one
+abbrev pub Forming : (w b : List ℕ) → Result FormedAd Reason → Type 0
+Forming w b (Ok p) = Well w b × Fronts w b p
+Forming w b (Err k) = ¬ (Well w b) × (number_of k ≡ 10)
+
+-- two ads that are admitted, each in the front of its memory
+pub record AdmitsWith (v b w c : List ℕ) (lent room entries : ℕ) (p : AdPair) : Type 0 where
   pub admits : Admits v b w c lent room entries
-  pub first_measured : Measured (take ad_words v) p.nodes p.definitions
-  pub second_measured : Measured (take ad_words w) q.nodes q.definitions
+  pub first_fronts : Fronts v b p.first
+  pub second_fronts : Fronts w c p.second
 
 -- an answer that is right
-abbrev pub Admitting : (v b w c : List ℕ) (lent room entries : ℕ) → Admission → Type 0
-Admitting v b w c lent room entries (Refused k) = Refuses v b w c lent room entries k
-Admitting v b w c lent room entries (Admitted p q) = AdmitsWith v b w c lent room entries p q
+abbrev pub Admitting : (v b w c : List ℕ) (lent room entries : ℕ) → Result AdPair Reason → Type 0
+Admitting v b w c lent room entries (Err k) = Refuses v b w c lent room entries (number_of k)
+Admitting v b w c lent room entries (Ok p) = AdmitsWith v b w c lent room entries p

@@ -1,11 +1,7 @@
 -- Two ads are refused in one way, or admitted. Assumes nothing.
 use Rattle.std.specs.Prelude.{ℕ, ◌≡◌, refl, List}
-use Rattle.std.proofs.Common.{sym, ◌∙◌, subst, true≢false}
-use Rattle.links.specs.declared.Counts.{Counts}
+use Rattle.std.proofs.Common.{sym, ◌∙◌, true≢false}
 use Rattle.admission.specs.Admission.{Refuses, no_room, first_malformed, second_malformed, Admits}
-use Rattle.admission.specs.Inner.Admitting.{AdmitsWith, Admitting}
-use Rattle.admission.specs.declared.Admission.{Admission}
-use Rattle.admission.specs.declared.Admission.TheVariants.{Refused, Admitted}
 
 module _ {v b w c : List ℕ} {lent room entries : ℕ} where
   pub refuses_one : {k l : ℕ} → Refuses v b w c lent room entries k → Refuses v b w c lent room entries l → k ≡ l
@@ -23,10 +19,3 @@ module _ {v b w c : List ℕ} {lent room entries : ℕ} where
   refused_not_admitted (no_room e) a = true≢false (sym e ∙ a.roomy)
   refused_not_admitted (first_malformed e n) a = n a.first_well
   refused_not_admitted (second_malformed e h n) a = n a.second_well
-
-  -- what an answer says
-  pub refusal_told : {r : Admission} {k : ℕ} → Admitting v b w c lent room entries r → r ≡ Refused k → Refuses v b w c lent room entries k
-  refusal_told h e = subst (Admitting v b w c lent room entries) e h
-
-  pub admission_told : {r : Admission} {p q : Counts} → Admitting v b w c lent room entries r → r ≡ Admitted p q → AdmitsWith v b w c lent room entries p q
-  admission_told h e = subst (Admitting v b w c lent room entries) e h

@@ -4,7 +4,7 @@ use Rattle.std.proofs.Common.{sym, ◌∙◌, arith, length-take-le, ltb-false}
 use Rattle.links.specs.Pair.{pair_slots}
 use Rattle.text.specs.Laws.Booleans.{neither}
 use Rattle.ad.specs.Layout.{ad_words, ad_bytes_room}
-use Rattle.links.specs.declared.Counts.{Counts}
+use Rattle.links.specs.declared.pair.AdPair.{AdPair}
 use Rattle.admission.specs.Admission.{small_pair}
 use Rattle.admission.specs.Inner.Admitting.{AdmitsWith}
 
@@ -37,7 +37,7 @@ rooms v b w c lent room entries e =
         }
 
 -- what is lent of two ads that are admitted: each front part has its size
-module _ {v b w c : List ℕ} {lent room entries : ℕ} {p q : Counts} (a : AdmitsWith v b w c lent room entries p q) where
+module _ {v b w c : List ℕ} {lent room entries : ℕ} {p : AdPair} (a : AdmitsWith v b w c lent room entries p) where
   pub fit : Rooms v b w c lent room entries
   fit = rooms v b w c lent room entries a.admits.roomy
 

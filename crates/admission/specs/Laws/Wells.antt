@@ -1,5 +1,5 @@
 -- What a well-formed ad in some memory gives. Assumes nothing.
-use Rattle.std.specs.Prelude.{ℕ, ◌≡◌, List, take}
+use Rattle.std.specs.Prelude.{ℕ, ◌≡◌, Option, Some, None, List, take}
 use Rattle.std.proofs.Common.{subst}
 use Rattle.syntax.specs.Tree.{Ad}
 use Rattle.ad.specs.Layout.{ad_words}
@@ -10,7 +10,6 @@ use Rattle.well_formed.specs.WellFormed.{Holds, Answers}
 use Rattle.well_formed.specs.Laws.Bounds.{bounded}
 use Rattle.well_formed.specs.Laws.Named.{bounded_named}
 use Rattle.well_formed.specs.declared.Checked.{Checked}
-use Rattle.well_formed.specs.declared.Checked.TheVariants.{WellFormed, Malformed}
 use Rattle.admission.specs.Admission.{Well}
 
 -- an ad in its memory
@@ -23,14 +22,14 @@ pub formed_of : (w b : List ℕ) → Well w b → Formed (take ad_words w)
 formed_of w b (a, h) = stored_formed (stored_of h)
 
 -- what the check answers of a well-formed ad are its counts
-pub well_measured : (w b : List ℕ) {d n k : ℕ} {r : Checked} → Answers w b r → r ≡ WellFormed d n k → Well w b × Measured (take ad_words w) n d
-well_measured w b {d} {n} {k} h e = go (subst (λ (x : Checked). Answers w b x) e h)
+pub well_measured : (w b : List ℕ) {k : Checked} {r : Option Checked} → Answers w b r → r ≡ Some k → Well w b × Measured (take ad_words w) k.counts.nodes k.counts.definitions
+well_measured w b {k} h e = go (subst (λ (x : Option Checked). Answers w b x) e h)
   where
-    go : Answers w b (WellFormed d n k) → Well w b × Measured (take ad_words w) n d
+    go : Answers w b (Some k) → Well w b × Measured (take ad_words w) k.counts.nodes k.counts.definitions
     go (a, x, i, j, _) = ((a, x), stored_measured (stored_of x) j i)
 
-pub malformed : (w b : List ℕ) {r : Checked} → Answers w b r → r ≡ Malformed → ¬ (Well w b)
-malformed w b h e = go (subst (λ (x : Checked). Answers w b x) e h)
+pub malformed : (w b : List ℕ) {r : Option Checked} → Answers w b r → r ≡ None → ¬ (Well w b)
+malformed w b h e = go (subst (λ (x : Option Checked). Answers w b x) e h)
   where
-    go : Answers w b Malformed → ¬ (Well w b)
+    go : Answers w b None → ¬ (Well w b)
     go f (a, x) = f a x

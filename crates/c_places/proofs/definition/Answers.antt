@@ -4,19 +4,23 @@ use Rattle.holders.proofs.Holders.{holder_inside}
 use Rattle.c_places.specs.Inspecting.{holder_numbers}
 use Rattle.c_places.proofs.definition.Goals as goal
 
+pub invariant_of-ad : goal.invariant_of-ad
+invariant_of-ad c = record { room = (holder_inside c.args.words.now c.args.node c.in-Some.j
+    (sym c.definition_of.ensures ∙ c.in-Some.is)).1 }
+
 pub offset-requires : goal.offset-requires
-offset-requires c = holder_inside c.args.words.now c.args.node
-    c.in-Definition.j (sym c.definition_of.ensures ∙ c.in-Definition.is)
+offset-requires c = (holder_inside c.args.words.now c.args.node c.in-Some.j
+    (sym c.definition_of.ensures ∙ c.in-Some.is)).0
 
 pub name_length-requires : goal.name_length-requires
-name_length-requires c = holder_inside c.args.words.now c.args.node
-    c.in-Definition.j (sym c.definition_of.ensures ∙ c.in-Definition.is)
+name_length-requires c = (holder_inside c.args.words.now c.args.node c.in-Some.j
+    (sym c.definition_of.ensures ∙ c.in-Some.is)).0
 
-pub returns-in-Nothing : goal.returns-in-Nothing
-returns-in-Nothing c = ap (holder_numbers c.args.words.now)
-    (sym c.in-Nothing.is ∙ c.definition_of.ensures)
+pub returns-in-None : goal.returns-in-None
+returns-in-None c = ap (holder_numbers c.args.words.now)
+    (sym c.in-None.is ∙ c.definition_of.ensures)
 
-pub returns-in-Definition : goal.returns-in-Definition
-returns-in-Definition c = rw (c.offset.ensures, c.name_length.ensures) (ap
+pub returns-in-Some : goal.returns-in-Some
+returns-in-Some c = rw (c.offset.ensures, c.name_length.ensures) (ap
     (holder_numbers c.args.words.now)
-    (sym c.in-Definition.is ∙ c.definition_of.ensures))
+    (sym c.in-Some.is ∙ c.definition_of.ensures))

@@ -1,5 +1,5 @@
 -- What inner functions are given and ensure. Assumes nothing.
-use Rattle.std.specs.Prelude.{◌≡◌, Bool, true, false, cond, List, [], ◌∷◌, ℕ, zero, suc, ◌+◌, ◌≤◌, ◌<◌, length, get_or, ltb}
+use Rattle.std.specs.Prelude.{◌≡◌, Bool, true, false, cond, Option, Some, None, List, [], ◌∷◌, ℕ, zero, suc, ◌+◌, ◌≤◌, ◌<◌, length, get_or, ltb}
 use Rattle.syntax.specs.Bounds.{max_nodes, max_definitions}
 use Rattle.names.specs.Inner.Fingerprint.{fingerprint_of}
 use Rattle.ad.specs.Layout.{ad_words}
@@ -30,6 +30,11 @@ Stands v w x = both (λ i. ltb i (node_count v)) (λ i. ltb i (node_count w)) x 
 abbrev pub unmarked : ℕ → List ℕ
 unmarked zero = []
 unmarked (suc y) = y ∷ []
+
+-- the mark that a node found has: one more than its number, 0 for none
+abbrev pub mark_of : Option ℕ → ℕ
+mark_of None = 0
+mark_of (Some y) = suc y
 
 -- the roots of the four expressions that are entered, as marks: one more than a node's number, 0 where there is none
 pub record RootMarks (v b w c : List ℕ) (first_requirements second_requirements first_rank second_rank : ℕ) : Type 0 where

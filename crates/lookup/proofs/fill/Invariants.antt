@@ -1,9 +1,5 @@
-use Prim.Native.Nat.{◌-◌}
-use Rattle.lookup.proofs.Reading.{Filling}
+use Rattle.links.specs.Inner.Filling.{Filled}
 use Rattle.lookup.proofs.fill.Given as goal
 
 abbrev pub invariant-loop-j : goal.invariant-loop-j
-invariant-loop-j l = Filling l.second l.words l.bytes l.d l.initial.prints l.prints l.j
-
-abbrev pub decreases-loop-j : goal.decreases-loop-j
-decreases-loop-j l = l.d - l.j
+invariant-loop-j l = Filled l.second l.side.ad.words.now l.side.ad.bytes.now l.j l.initial.prints l.prints

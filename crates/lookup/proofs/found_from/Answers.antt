@@ -1,45 +1,37 @@
-use mathlib.Core.Bool.{Bool}
-use mathlib.Core.Path.{sym, subst}
-use Rattle.links.specs.Inner.Asked.{Printed}
+use Rattle.std.proofs.Common.{ap, sym, refl, ◌∙◌, arith}
+use Rattle.std.proofs.lemmas.Option.{same_Some}
+use Rattle.ad.specs.Layout.{code_of}
+use Rattle.ad.specs.Stored.{kind_of}
+use Rattle.links.specs.Inner.Asked.{mark_of}
+use Rattle.links.specs.Laws.Kinds.{kind_coded, kind_none}
 use Rattle.links.specs.Laws.Numbering.{nodes_fit, found_own, found_other, found_none}
-use borrow.Author.Rules.{rules}
 use Rattle.lookup.proofs.found_from.Goals as goal
 
-pub kind-kind-requires : goal.kind-kind-requires
-kind-kind-requires c = let h = nodes_fit c.requires.own.0 in
-    (search rules, c.requires.own.0.formed.words_room)
+pub kind-requires : goal.kind-requires
+kind-requires c = omega (arith, nodes_fit c.args.side.measured, c.args.side.measured.nodes_are, c.requires.node)
 
-pub reference_name-name-requires : goal.reference_name-name-requires
-reference_name-name-requires c = let h = nodes_fit c.requires.own.0 in
-    (search rules, c.requires.own.0.formed.words_room)
+pub returns-in_err-kind-clause-found : goal.returns-in_err-kind-clause-found
+returns-in_err-kind-clause-found c = let n = kind_none _ c.kind.ensures c.in_err-kind.was in rw n.0 (ap mark_of c.from_residual.ensures)
 
-pub find_name-requires : goal.find_name-requires
-find_name-requires c = (c.requires.own.0.formed, c.requires.own.0.definitions_are, c.requires.prints.0, c.requires.prints.2)
+pub reference_name-requires : goal.reference_name-requires
+reference_name-requires c = omega (arith, nodes_fit c.args.side.measured, c.args.side.measured.nodes_are, c.requires.node)
 
-pub returns-then-kind-eq7 : goal.returns-then-kind-eq7
-returns-then-kind-eq7 c = found_own c.args.words.now c.args.bytes.now c.args.others.now
-    c.args.names.now c.args.second c.args.i c.requires.own.2 c.kind-kind.ensures
-    c.if-kind-eq7.true c.reference_name-name.ensures c.find_name.ensures
+pub reference_name-requires-in-Other : goal.reference_name-requires-in-Other
+reference_name-requires-in-Other c = omega (arith, nodes_fit c.args.side.measured, c.args.side.measured.nodes_are, c.requires.node)
 
-pub reference_name-name-requires-then-kind-eq8 : goal.reference_name-name-requires-then-kind-eq8
-reference_name-name-requires-then-kind-eq8 c = let h = nodes_fit c.requires.own.0 in
-    (search rules, c.requires.own.0.formed.words_room)
+pub returns-in-Own-clause-found : goal.returns-in-Own-clause-found
+returns-in-Own-clause-found c =
+    found_own c.args.side.ad.words.now c.args.side.ad.bytes.now c.args.other.ad.words.now c.args.other.ad.bytes.now c.args.second c.args.i c.requires.node
+    (kind_coded c.kind.ensures c.in_ok-kind.was) (ap code_of c.in-Own.is) c.reference_name.ensures c.find_name.ensures.found
 
-pub find_name-requires-then-kind-eq8 : goal.find_name-requires-then-kind-eq8
-find_name-requires-then-kind-eq8 c = (
-  c.requires.own.1.formed,
-  c.requires.own.1.definitions_are,
-  subst (λ (t : Bool). Printed t c.args.others.now c.args.names.now
-      c.args.prints.now) (sym c.opposite-far.ensures) c.requires.prints.1,
-  c.requires.prints.2,
-)
+pub returns-in-Other-clause-found : goal.returns-in-Other-clause-found
+returns-in-Other-clause-found c =
+    found_other c.args.side.ad.words.now c.args.side.ad.bytes.now c.args.other.ad.words.now c.args.other.ad.bytes.now c.args.second c.args.i c.requires.node
+    (kind_coded c.kind.ensures c.in_ok-kind.was) (ap code_of c.in-Other.is) c.reference_name-in-Other.ensures refl c.find_name-in-Other.ensures.found
 
-pub returns-then-kind-eq8 : goal.returns-then-kind-eq8
-returns-then-kind-eq8 c = found_other c.args.words.now c.args.bytes.now c.args.others.now
-    c.args.names.now c.args.second c.args.i c.requires.own.2 c.kind-kind.ensures
-    c.if-kind-eq8.true c.reference_name-name-then-kind-eq8.ensures c.opposite-far.ensures c.find_name-then-kind-eq8.ensures
-
-pub returns : goal.returns
-returns c = found_none c.args.words.now c.args.bytes.now c.args.others.now
-    c.args.names.now c.args.second c.args.i c.requires.own.2 c.kind-kind.ensures
-    c.if-kind-eq7.false c.if-kind-eq8.false
+pub returns-in_default-clause-found : goal.returns-in_default-clause-found
+unfolding kind_of
+returns-in_default-clause-found c =
+    found_none c.args.side.ad.words.now c.args.side.ad.bytes.now c.args.other.ad.words.now c.args.other.ad.bytes.now c.args.second c.args.i c.requires.node refl
+    (λ q. c.in_default.not-Own (same_Some _ _ (sym c.in_ok-kind.was ∙ c.kind.ensures ∙ ap kind_of q)))
+    (λ q. c.in_default.not-Other (same_Some _ _ (sym c.in_ok-kind.was ∙ c.kind.ensures ∙ ap kind_of q)))

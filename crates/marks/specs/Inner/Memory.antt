@@ -1,8 +1,8 @@
 -- The traversal's memory: the place, the marks and the list as the rule's state. Assumes nothing.
-use Rattle.std.specs.Prelude.{◌≡◌, ◌⊎◌, Bool, cond, List, [], ◌∷◌, ℕ, suc, ◌+◌, ◌*◌, ◌≤◌, ◌<◌, length, get_or, set, take}
+use Rattle.std.specs.Prelude.{◌≡◌, ◌⊎◌, Bool, cond, Option, Some, None, List, [], ◌∷◌, ℕ, suc, ◌+◌, ◌*◌, ◌≤◌, ◌<◌, length, get_or, set, take}
 use Rattle.graph.specs.Members.{numbers, raised}
 use Rattle.graph.specs.Graph.{Graph}
-use Rattle.graph.specs.Transition.{State, searches, start, led, needed, marked}
+use Rattle.graph.specs.Transition.{State, searches, start, led, needed, named, marked}
 use Rattle.graph.specs.declared.Place.{Place}
 
 -- ---- layout (docs/LAYOUT.md: 'Layouts are the team's, written in docs/')
@@ -43,6 +43,11 @@ view place len target marks flag list = record {
 unfoldable pub fill : List ℕ → ℕ → ℕ → List ℕ → List ℕ
 fill marks x j [] = marks
 fill marks x j (a ∷ vs) = fill (set marks (x * per_node + j) a) x (suc j) vs
+
+-- the nodes that a mark names, where it is read: none, or one
+abbrev pub nodes_of : Option ℕ → List ℕ
+nodes_of None = []
+nodes_of (Some y) = y ∷ []
 
 -- the flags, one set where b holds
 unfoldable pub flagged_at : List ℕ → ℕ → Bool → List ℕ
@@ -94,11 +99,11 @@ pub record AtLink (G : Graph) (x y i : ℕ) (target marks flag : List ℕ) : Typ
   pub more : i < length (needed G (numbers target) (raised flag) x)
   pub next_is : y ≡ get_or (needed G (numbers target) (raised flag) x) i 0
 
--- a list search is at x, which has no need left and was entered from f
-pub record AtLast (G : Graph) (x f : ℕ) (target marks flag : List ℕ) : Type 0 where
+-- a list search is at x, which has no need left and was entered from a node or none
+pub record AtLast (G : Graph) (x : ℕ) (from : List ℕ) (target marks flag : List ℕ) : Type 0 where
   pub slots_are : G.slots ≡ marks_room
   pub over : length (needed G (numbers target) (raised flag) x) ≤ mark_at marks 2 x
-  pub from_is : f ≡ mark_at marks 1 x
+  pub from_is : from ≡ named G (mark_at marks 1 x)
 
 -- the list grows from len to len' entries, and what lies behind them stays
 pub record Grows (len len' : ℕ) (list list' : List ℕ) : Type 0 where

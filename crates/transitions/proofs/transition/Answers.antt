@@ -1,119 +1,50 @@
-use mathlib.Core.Path.{refl}
-use lib.ListN.{length}
-use native.Mathlib.Omega.{arith}
-use Rattle.links.specs.Laws.Numbering.{nodes_fit}
+use Rattle.std.proofs.Common.{length, arith}
+use Rattle.links.specs.Graphs.{graph_of}
 use Rattle.links.specs.Laws.Roots.{roots_few, roots_small}
-use Rattle.transitions.proofs.Steps.{kept_grows, nodes_few, step_close}
+use Rattle.transitions.proofs.Steps.{size_few, size_counts, slots_are}
 use Rattle.transitions.proofs.Places.{fits_at}
-use borrow.Author.Rules.{rules}
 use Rattle.transitions.proofs.transition.Goals as goal
 
 pub resolving-requires : goal.resolving-requires
-resolving-requires c = record {
-  ads = (c.requires.ads.0, c.requires.ads.1, c.requires.ads.3);
-  room = (
-    fits_at c.args.first_words.now c.args.second_words.now
-        (length c.args.roots.now) c.args.s.len c.args.list.now
-        c.args.s.place c.requires.room.1 c.in-Resolving.is,
-    c.requires.room.0.target_room,
-  );
-}
+resolving-requires c =
+    let f = fits_at c.args.pair.ads.first.ad.words.now c.args.pair.ads.second.ad.words.now (length c.args.roots.now) c.args.s.len c.args.list.now c.args.s.place c.requires.room.1 c.in-Resolving.is in
+    (omega (arith, f, size_counts c.args.pair.ads), c.requires.room.0.target_room)
 
 pub starting-requires : goal.starting-requires
-starting-requires c = (
-  c.requires.ads.0,
-  c.requires.ads.1,
-  fits_at c.args.first_words.now c.args.second_words.now
-      (length c.args.roots.now) c.args.s.len c.args.list.now
-      c.args.s.place c.requires.room.1 c.in-Starting.is,
-  c.requires.room.0.marks_room_lem,
-)
+starting-requires c =
+    let f = fits_at c.args.pair.ads.first.ad.words.now c.args.pair.ads.second.ad.words.now (length c.args.roots.now) c.args.s.len c.args.list.now c.args.s.place c.requires.room.1 c.in-Starting.is in
+    (omega (arith, f, size_counts c.args.pair.ads), c.requires.room.0.marks_room_lem)
+
+pub invariant_of-search : goal.invariant_of-search
+invariant_of-search c = record { at_slot = (fits_at c.args.pair.ads.first.ad.words.now c.args.pair.ads.second.ad.words.now (length c.args.roots.now) c.args.s.len c.args.list.now c.args.s.place c.requires.room.1 c.in-Searching.is).0 }
 
 pub searching-requires : goal.searching-requires
-searching-requires c = record {
-  ads = (c.requires.ads.0, c.requires.ads.1);
-  place = fits_at c.args.first_words.now c.args.second_words.now
-      (length c.args.roots.now) c.args.s.len c.args.list.now
-      c.args.s.place c.requires.room.1 c.in-Searching.is;
-  room = (c.requires.room.0.target_room, c.requires.room.0.marks_room_lem, c.requires.room.0.flag_room);
-}
-
-pub overflow_add-p : goal.overflow_add-p
-overflow_add-p c = let h = nodes_fit c.requires.ads.0 in
-    let k = nodes_fit c.requires.ads.1 in
-    search rules
+searching-requires c =
+    let f = fits_at c.args.pair.ads.first.ad.words.now c.args.pair.ads.second.ad.words.now (length c.args.roots.now) c.args.s.len c.args.list.now c.args.s.place c.requires.room.1 c.in-Searching.is in
+    record {
+      place = (omega (arith, f.2, size_counts c.args.pair.ads, size_few c.args.pair.ads), f.1, f.3, f.4);
+      room = (c.requires.room.0.target_room, c.requires.room.0.marks_room_lem, c.requires.room.0.flag_room);
+    }
 
 pub close-requires : goal.close-requires
-close-requires c = let f = fits_at c.args.first_words.now c.args.second_words.now
-    (length c.args.roots.now) c.args.s.len c.args.list.now c.args.s.place
-    c.requires.room.1 c.in-Closing.is in
-    let h = nodes_few c.requires.ads.0 c.requires.ads.1 in
-    let j = f.2 in
-    (omega arith, f.0, f.1, c.requires.room.0.marks_room_lem)
+close-requires c =
+    let f = fits_at c.args.pair.ads.first.ad.words.now c.args.pair.ads.second.ad.words.now (length c.args.roots.now) c.args.s.len c.args.list.now c.args.s.place c.requires.room.1 c.in-Closing.is in
+    (omega (arith, f.2, size_counts c.args.pair.ads, size_few c.args.pair.ads), f.0, f.1, c.requires.room.0.marks_room_lem)
 
 pub between-requires : goal.between-requires
 between-requires c = (
-  fits_at c.args.first_words.now c.args.second_words.now
-      (length c.args.roots.now) c.args.s.len c.args.list.now
-      c.args.s.place c.requires.room.1 c.in-Between.is,
-  roots_few c.args.first_bytes.now c.args.second_bytes.now c.requires.ads.0
-      c.requires.ads.1 c.requires.ads.2,
-  roots_small c.args.first_bytes.now c.args.second_bytes.now c.requires.ads.0
-      c.requires.ads.1 c.requires.ads.2,
   c.requires.room.0.marks_room_lem,
+  fits_at c.args.pair.ads.first.ad.words.now c.args.pair.ads.second.ad.words.now (length c.args.roots.now) c.args.s.len c.args.list.now c.args.s.place c.requires.room.1 c.in-Between.is,
+  roots_few c.args.pair.ads.first.ad.bytes.now c.args.pair.ads.second.ad.bytes.now c.args.pair.ads.first.measured c.args.pair.ads.second.measured c.requires.roots,
+  roots_small c.args.pair.ads.first.ad.bytes.now c.args.pair.ads.second.ad.bytes.now c.args.pair.ads.first.measured c.args.pair.ads.second.measured c.requires.roots,
 )
 
-pub inside-requires : goal.inside-requires
-inside-requires c = let f = fits_at c.args.first_words.now c.args.second_words.now
-    (length c.args.roots.now) c.args.s.len c.args.list.now c.args.s.place
-    c.requires.room.1 c.in-Inside.is in
-    let r = roots_few c.args.first_bytes.now c.args.second_bytes.now c.requires.ads.0
-    c.requires.ads.1 c.requires.ads.2 in
-    let j = f.1 in
-    record {
-      ads = (c.requires.ads.0.formed, c.requires.ads.1.formed, f.0, omega arith);
-      room = (c.requires.room.0, f.2);
-    }
+pub inside-requires-clause-place : goal.inside-requires-clause-place
+inside-requires-clause-place c =
+    let f = fits_at c.args.pair.ads.first.ad.words.now c.args.pair.ads.second.ad.words.now (length c.args.roots.now) c.args.s.len c.args.list.now c.args.s.place c.requires.room.1 c.in-Inside.is in
+    let r = roots_few c.args.pair.ads.first.ad.bytes.now c.args.pair.ads.second.ad.bytes.now c.args.pair.ads.first.measured c.args.pair.ads.second.measured c.requires.roots in
+    (f.0, omega (arith, f.1, r))
 
-pub returns-in-Resolving : goal.returns-in-Resolving
-returns-in-Resolving c = record {
-  list_after = rw c.in-Resolving.is (c.resolving.ensures.by_index _ _ _);
-  room = kept_grows _ c.resolving.ensures.kept;
-  flags = rw c.in-Resolving.is refl;
-}
-
-pub returns-in-Starting : goal.returns-in-Starting
-returns-in-Starting c = record {
-  list_after = rw c.in-Starting.is (c.starting.ensures.ls_after _ _ _ _ _);
-  room = kept_grows _ c.starting.ensures.kept;
-  flags = rw c.in-Starting.is refl;
-}
-
-pub returns-in-Searching : goal.returns-in-Searching
-returns-in-Searching c = record {
-  list_after = rw c.in-Searching.is (c.searching.ensures.by_index _ _ _);
-  room = kept_grows _ c.searching.ensures.kept;
-  flags = rw c.in-Searching.is c.searching.ensures.flags;
-}
-
-pub returns-in-Closing : goal.returns-in-Closing
-returns-in-Closing c = record {
-  list_after = rw c.in-Closing.is (c.close.ensures.ls_after _ _ _ _
-      (step_close c.requires.ads.0 c.requires.ads.1 _ _));
-  room = kept_grows _ c.close.ensures.kept;
-  flags = rw c.in-Closing.is refl;
-}
-
-pub returns-in-Between : goal.returns-in-Between
-returns-in-Between c = record {
-  list_after = rw c.in-Between.is (c.between.ensures.ls_after _ _ _ _ _ _ _ c.requires.ads.2);
-  room = kept_grows _ c.between.ensures.kept;
-  flags = rw c.in-Between.is refl;
-}
-
-pub returns-in-Inside : goal.returns-in-Inside
-returns-in-Inside c = record {
-  list_after = rw c.in-Inside.is (c.inside.ensures.by_index _ _);
-  room = c.inside.ensures.room;
-  flags = rw c.in-Inside.is refl;
-}
+pub returns-in-Closing-clause-list_after : goal.returns-in-Closing-clause-list_after
+returns-in-Closing-clause-list_after c =
+    rw c.in-Closing.is (c.close.ensures (graph_of c.args.pair.ads) c.args.s.len _ _ _ (record { size_is = c.size.ensures; slots_are = slots_are c.args.pair.ads }))

@@ -1,7 +1,0 @@
-use Rattle.c_printing.proofs.print_numbers.Goals as goal
-
-pub returns-in-Text : goal.returns-in-Text
-returns-in-Text c = rw c.in-Text.is
-
-pub returns-in-Refused : goal.returns-in-Refused
-returns-in-Refused c = rw c.in-Refused.is
