@@ -38,7 +38,7 @@ pub fn number_only(v: Value) -> Value
     ensures { result ≡ number_only v }
 {
     match v {
-        Value::String(_, _, _) => Value::Error,
+        Value::String(..) => Value::Error,
         _ => v,
     }
 }
