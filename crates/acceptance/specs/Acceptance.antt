@@ -1,6 +1,5 @@
 -- WHAT `read` ACCEPTS, A MATCH ACCEPTS. 'two ads are accepted where their match is given neither', 1 nor 10. Assumes nothing.
-use Rattle.std.specs.Prelude.{ℕ, ◌≤◌, ◌<◌, ◌≡◌, refl, Bool, true, false, ◌||◌, List, ◌++◌, length, take, drop, ltb}
-use Rattle.std.proofs.Math.Decide.{dec_lt}
+use Rattle.std.specs.Prelude.{ℕ, ◌≤◌, ◌≡◌, refl, Bool, true, false, ◌||◌, Result, Ok, Err, List, ◌++◌, length, take, drop, ltb}
 use Rattle.std.proofs.Common.{arith, sym, ap, ◌∙◌, subst, length-append, take_at, le-ltb}
 use Rattle.links.specs.Pair.{pair_slots}
 use Rattle.syntax.specs.Bounds.{text_bytes}
@@ -11,15 +10,15 @@ use Rattle.ad.specs.Layout.{small_ad, ad_words, ad_bytes_room, stored_words, sto
 use Rattle.well_formed.specs.WellFormed.{Holds}
 use Rattle.well_formed.specs.Laws.Bounds.{read_holds}
 use Rattle.well_formed.specs.Laws.Whole.{holds_long}
-use Rattle.ad_reader.specs.declared.Answer.{Answer}
-use Rattle.ad_reader.specs.declared.Answer.TheVariants as reading
+use Rattle.ad.specs.declared.Counts.{Counts}
+use Rattle.syntax.specs.Refusals.{refusal}
+use Rattle.syntax.specs.declared.Refusal.{Refusal}
 use Rattle.reader.specs.Content.{answer_of, words_of, bytes_of, answer, words_after, bytes_after, Answered}
 use Rattle.matching.specs.Matching as M
 use Rattle.matching.specs.Matching.{Matched, refused, matches, table_words}
 use Rattle.admission.specs.Admission.{Well}
 use Rattle.admission.specs.Laws.Refusing.{refused_not_admitted}
 use Rattle.matching.specs.declared.Outcome.{Outcome}
-use Rattle.matching.specs.declared.Outcome.TheVariants.{Refused}
 
 -- memory that is large enough and holds a well-formed ad, of which a match gives 'neither' 1 nor 10
 pub record Ready (w b : List ℕ) : Type 0 where
@@ -51,11 +50,11 @@ unfolding R.read
 long s h = rw h refl
 
 -- WHAT AN ACCEPTED READING LEAVES IS READY FOR A MATCH, whatever the memory was
-pub accepted_ready : (s w b w' b' : List ℕ) (d n : ℕ) → Answered s w b w' b' (reading.Accepted d n) → Ready w' b'
+pub accepted_ready : (s w b w' b' : List ℕ) (counts : Counts) → Answered s w b w' b' (Ok counts) → Ready w' b'
 unfolding answer words_after bytes_after
-accepted_ready s w b w' b' d n x = go (small_ad w b) (R.read s) refl x.answers x.words x.bytes
+accepted_ready s w b w' b' counts x = go (small_ad w b) (R.read s) refl x.answers x.words x.bytes
   where
-    go : (t : Bool) (r : R.Answer) → R.read s ≡ r → reading.Accepted d n ≡ pick t (λ _. reading.Refused 1 0) (λ _. answer_of r) →
+    go : (t : Bool) (r : R.Answer) → R.read s ≡ r → ◌≡◌ {A = Result Counts Refusal} (Ok counts) (pick t (λ _. Err (refusal 1 0)) (λ _. answer_of r)) →
         w' ≡ pick (t || ltb text_bytes (length s)) (λ _. w) (λ _. words_of r ++ drop ad_words w) → b' ≡ pick (t || ltb text_bytes (length s)) (λ _. b) (λ _. bytes_of r ++ drop ad_bytes_room b) → Ready w' b'
     go true r e a f g = let z : ◌≡◌ {A = ℕ} 0 1 = cc in absurd (omega arith)
     go false (R.denied k p) e a f g = let z : ◌≡◌ {A = ℕ} 0 1 = cc in absurd (omega arith)
@@ -66,24 +65,13 @@ accepted_ready s w b w' b' d n x = go (small_ad w b) (R.read s) refl x.answers x
         short false h p q = stored s w b w' b' tree e p q
 
 -- such memory is never refused by a match that has room for its table and list
-pub ready_matches : {v b w c : List ℕ} {budget : ℕ} {table list table' list' : List ℕ} {r : Outcome} → Ready v b → Ready w c → table_words ≤ length table → pair_slots ≤ length list →
-    Matched v b w c budget table list table' list' r → (k p : ℕ) → r ≡ Refused k p → ⊥
-ready_matches {v} {b} {w} {c} {budget} {table} {list} {r = r} p q h l m k p' e = go m
+pub ready_matches : {v b w c : List ℕ} {budget : ℕ} {table list table' list' : List ℕ} {r : Result Outcome Refusal} → Ready v b → Ready w c → table_words ≤ length table → pair_slots ≤ length list →
+    Matched v b w c budget table list table' list' r → (e : Refusal) → r ≡ Err e → ⊥
+ready_matches {v} {b} {w} {c} {budget} {table} {list} {r = r} p q h l m e is = go m
   where
     room : M.small v b w c table list ≡ false
     room = rw (le-ltb (length v) ad_words p.words, le-ltb (length b) ad_bytes_room p.bytes, le-ltb (length w) ad_words q.words, le-ltb (length c) ad_bytes_room q.bytes, le-ltb (length table) table_words h) (le-ltb (length list) pair_slots l)
 
-    answered : {v b w c table list : List ℕ} → M.Match v b w c budget table list r → ⊥
-    answered m = done (dec_lt budget (length m.order))
-      where
-        done : Dec (budget < length m.order) → ⊥
-        done (yes x) = let u = m.unfinished x in let z : ◌≡◌ {A = ℕ} 0 1 = cc in omega arith
-        done (no x) =
-            let x' : ¬ (budget < length m.order) = x in
-            let u = (m.finished (omega arith)).answers in
-            let z : ◌≡◌ {A = ℕ} 0 1 = cc in
-            omega arith
-
     go : {table' list' : List ℕ} → Matched v b w c budget table list table' list' r → ⊥
     go (refused x r t u) = refused_not_admitted x (record { roomy = room; first_well = p.well; second_well = q.well })
-    go (matches x values entries m t u) = answered m
+    go (matches {o} x f values entries m t u) = let y : ◌≡◌ {A = Result Outcome Refusal} (Ok o) (Err e) = sym f ∙ is in let z : ◌≡◌ {A = ℕ} 0 1 = cc in omega arith

@@ -1,6 +1,6 @@
 -- WHAT IS PRINTED READS BACK INTO MEMORY AS IT WAS, and the contracts of `check` and `print` leave one answer and one output. Assumes
 -- nothing.
-use Rattle.std.specs.Prelude.{ℕ, ◌≡◌, refl, List, [], ◌++◌, length, take, drop}
+use Rattle.std.specs.Prelude.{ℕ, ◌≡◌, refl, Option, Some, None, Result, Ok, Err, List, [], ◌++◌, length, take, drop}
 use Rattle.std.proofs.Common.{arith, sym, ap, ◌∙◌, subst, inl, inr, length-take, take_at}
 use Rattle.syntax.specs.Tree.{Ad, nodes}
 use Rattle.syntax.specs.Print.{printed_ad}
@@ -10,30 +10,29 @@ use Rattle.well_formed.specs.WellFormed.{Holds, Answers}
 use Rattle.well_formed.specs.Laws.Bounds.{bounded}
 use Rattle.well_formed.specs.Laws.Whole.{holds_long, holds_found}
 use Rattle.well_formed.specs.declared.Checked.{Checked}
-use Rattle.well_formed.specs.declared.Checked.TheVariants.{WellFormed, Malformed}
 use Rattle.round_trip.proofs.Laws.RoundTrip.{read_back}
 use Rattle.printer.specs.Prints.{Roomy, Stored, Fitting, Refuses, small, malformed, long, PrintsText, Prints, HandsBack}
-use Rattle.printer.specs.declared.Printed.{Printed}
-use Rattle.printer.specs.declared.Printed.TheVariants.{Text, Refused}
-use Rattle.ad_reader.specs.declared.Answer.{Answer}
-use Rattle.ad_reader.specs.declared.Answer.TheVariants.{Accepted}
+use Rattle.ad.specs.declared.Counts.{Counts}
+use Rattle.syntax.specs.Refusals.{number_of, refusal}
+use Rattle.syntax.specs.declared.Refusal.{Refusal}
+use Rattle.syntax.proofs.Laws.Numbered.{refusal_numbered}
 use Rattle.reader.specs.Content.{Answered}
 use Rattle.text_theorems.specs.Reading.{read_answered}
 
 -- what reading a printed text back leaves: the ad that was printed, of whose memory w and b only the room's front part counts, in front
 -- of what was there ('Memory lent beyond these sizes is never changed.')
-pub record ReadBack (w b w₀ b₀ w₁ b₁ : List ℕ) (r : Answer) : Type 0 where
+pub record ReadBack (w b w₀ b₀ w₁ b₁ : List ℕ) (r : Result Counts Refusal) : Type 0 where
   pub tree : Ad
   pub stored : Stored w b tree
   -- 'accepted with its counts'
-  pub answers : r ≡ Accepted (length tree) (nodes tree)
+  pub answers : r ≡ Ok (record { definitions = length tree; nodes = nodes tree })
   -- 'equal trees have equal content'
   pub words : w₁ ≡ take ad_words w ++ drop ad_words w₀
   pub bytes : b₁ ≡ take ad_bytes_room b ++ drop ad_bytes_room b₀
 
 -- ---- printing, then reading
 
-tree_back : {w b o s w₀ b₀ w₁ b₁ : List ℕ} {r : Answer} (a : Ad) → Stored w b a → Fitting o (printed_ad a) → s ≡ printed_ad a → Roomy w₀ b₀ → Answered s w₀ b₀ w₁ b₁ r → ReadBack w b w₀ b₀ w₁ b₁ r
+tree_back : {w b o s w₀ b₀ w₁ b₁ : List ℕ} {r : Result Counts Refusal} (a : Ad) → Stored w b a → Fitting o (printed_ad a) → s ≡ printed_ad a → Roomy w₀ b₀ → Answered s w₀ b₀ w₁ b₁ r → ReadBack w b w₀ b₀ w₁ b₁ r
 tree_back {w₀ = w₀} {b₀} a h f e m x =
     let y = read_answered a m (ap R.read e ∙ read_back a (bounded h) f.bounded) x in
     record {
@@ -45,11 +44,11 @@ tree_back {w₀ = w₀} {b₀} a h f e m x =
     }
 
 -- A TEXT THAT `print` WROTE IS ACCEPTED BY `read`, in any memory with room, AND THE MEMORY THAT WAS PRINTED IS LEFT
-pub print_then_read : {w b o o' w₀ b₀ w₁ b₁ : List ℕ} {n : ℕ} {r : Answer} → Prints w b o o' (Text n) → Roomy w₀ b₀ → Answered (take n o') w₀ b₀ w₁ b₁ r → ReadBack w b w₀ b₀ w₁ b₁ r
+pub print_then_read : {w b o o' w₀ b₀ w₁ b₁ : List ℕ} {n : ℕ} {r : Result Counts Refusal} → Prints w b o o' (Ok n) → Roomy w₀ b₀ → Answered (take n o') w₀ b₀ w₁ b₁ r → ReadBack w b w₀ b₀ w₁ b₁ r
 print_then_read {o = o} {n = n} (a, h, f, e, q) m x = tree_back a h f (ap (take n) q ∙ take_at (printed_ad a) (drop n o) n (sym e)) m x
 
 -- and so is one that `text` handed back: 'The text is handed back as the front part of the caller's output'
-pub text_then_read : {w b o t w₀ b₀ w₁ b₁ : List ℕ} {r : Answer} → HandsBack w b o t → (t ≡ [] → ⊥) → Roomy w₀ b₀ → Answered t w₀ b₀ w₁ b₁ r → ReadBack w b w₀ b₀ w₁ b₁ r
+pub text_then_read : {w b o t w₀ b₀ w₁ b₁ : List ℕ} {r : Result Counts Refusal} → HandsBack w b o t → (t ≡ [] → ⊥) → Roomy w₀ b₀ → Answered t w₀ b₀ w₁ b₁ r → ReadBack w b w₀ b₀ w₁ b₁ r
 text_then_read (inl (a, h, f, e)) n m x = tree_back a h f e m x
 text_then_read (inr (k, p, e)) n m x = absurd (n e)
 
@@ -60,11 +59,16 @@ pub holds_one : {w b : List ℕ} {a e : Ad} → Holds w b a → Holds w b e → 
 holds_one {w} {b} {a} {e} x y = let l = holds_long a x in let p = (holds_found w b l.0 l.1 a x).0 in let q = (holds_found w b l.0 l.1 e y).0 in cc
 
 -- THE CONTRACT OF `check` LEAVES ONE ANSWER
-pub check_one : (w b : List ℕ) (q r : Checked) → Answers w b q → Answers w b r → q ≡ r
-check_one w b (WellFormed d n k) (WellFormed d' n' k') (a, x, i, j, l) (e, y, i', j', l') = let s = holds_one x y in cc
-check_one w b (WellFormed d n k) Malformed (a, x, i, j, l) f = absurd (f a x)
-check_one w b Malformed (WellFormed d n k) f (a, x, i, j, l) = absurd (f a x)
-check_one w b Malformed Malformed f g = refl
+pub check_one : (w b : List ℕ) (q r : Option Checked) → Answers w b q → Answers w b r → q ≡ r
+check_one w b (Some p) (Some q) (a, x, i, j, l) (e, y, i', j', l') =
+    let s = holds_one x y in
+    let d = i ∙ ap length s ∙ sym i' in
+    let n = j ∙ ap nodes s ∙ sym j' in
+    let k = l ∙ ap (λ (z : Ad). length (printed_ad z)) s ∙ sym l' in
+    λ t. Some (record { counts = record { definitions = d t; nodes = n t }; print_length = k t })
+check_one w b (Some p) None (a, x, i, j, l) f = absurd (f a x)
+check_one w b None (Some p) f (a, x, i, j, l) = absurd (f a x)
+check_one w b None None f g = refl
 
 stored_roomy : {w b : List ℕ} {a : Ad} → Stored w b a → Roomy w b
 stored_roomy {w} {b} {a} h =
@@ -91,18 +95,22 @@ printed_not a h f (small n) = n (stored_roomy h)
 printed_not a h f (malformed m n) = n a h
 printed_not {t} {o = o} a h f (long m s n) = n (subst (λ (e : Ad). Fitting o (t e)) (holds_one h s) f)
 
+-- a refusal is its number and its place
+same_refusal : (r r' : Refusal) → number_of r.reason ≡ number_of r'.reason → r.place ≡ r'.place → r ≡ r'
+same_refusal r r' e f = refusal_numbered r ∙ (λ i. refusal (e i) (f i)) ∙ sym (refusal_numbered r')
+
 -- A PRINTER'S CONTRACT LEAVES ONE ANSWER and one output, whatever the text t of an ad is
-pub prints_one : (t : Ad → List ℕ) (w b o : List ℕ) {o₁ o₂ : List ℕ} (q r : Printed) → PrintsText t w b o o₁ q → PrintsText t w b o o₂ r → (q ≡ r) × (o₁ ≡ o₂)
-prints_one t w b o (Text n) (Text n') (a, h, f, e, p) (a', h', f', e', p') =
+pub prints_one : (t : Ad → List ℕ) (w b o : List ℕ) {o₁ o₂ : List ℕ} (q r : Result ℕ Refusal) → PrintsText t w b o o₁ q → PrintsText t w b o o₂ r → (q ≡ r) × (o₁ ≡ o₂)
+prints_one t w b o (Ok n) (Ok n') (a, h, f, e, p) (a', h', f', e', p') =
     let s = holds_one h h' in
     let i : n ≡ n' = e ∙ ap (λ (x : Ad). length (t x)) s ∙ sym e' in
-    (ap Text i, p ∙ ap (λ (x : Ad). t x ++ drop n o) s ∙ ap (λ (m : ℕ). t a' ++ drop m o) i ∙ sym p')
-prints_one t w b o (Text n) (Refused k p) (a, h, f, e, q) (x, y, z) = absurd (printed_not a h f x)
-prints_one t w b o (Refused k p) (Text n) (x, y, z) (a, h, f, e, q) = absurd (printed_not a h f x)
-prints_one t w b o (Refused k p) (Refused k' p') (x, y, z) (x', y', z') = let i = refuses_one x x' in (cc, z ∙ sym z')
+    (ap Ok i, p ∙ ap (λ (x : Ad). t x ++ drop n o) s ∙ ap (λ (m : ℕ). t a' ++ drop m o) i ∙ sym p')
+prints_one t w b o (Ok n) (Err r) (a, h, f, e, q) (x, y, z) = absurd (printed_not a h f x)
+prints_one t w b o (Err r) (Ok n) (x, y, z) (a, h, f, e, q) = absurd (printed_not a h f x)
+prints_one t w b o (Err r) (Err r') (x, y, z) (x', y', z') = (ap Err (same_refusal r r' (refuses_one x x') (y ∙ sym y')), z ∙ sym z')
 
 -- THE CONTRACT OF `print` LEAVES ONE ANSWER and one output
-pub print_one : (w b o : List ℕ) {o₁ o₂ : List ℕ} (q r : Printed) → Prints w b o o₁ q → Prints w b o o₂ r → (q ≡ r) × (o₁ ≡ o₂)
+pub print_one : (w b o : List ℕ) {o₁ o₂ : List ℕ} (q r : Result ℕ Refusal) → Prints w b o o₁ q → Prints w b o o₂ r → (q ≡ r) × (o₁ ≡ o₂)
 print_one w b o = prints_one printed_ad w b o
 
 -- THE CONTRACT OF `text` LEAVES ONE TEXT

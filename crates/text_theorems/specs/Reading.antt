@@ -1,6 +1,6 @@
 -- WHAT AN ACCEPTED READING LEAVES: the tree that the text reads as, stored in front of what was there. And `read` leaves one answer and
 -- one memory. Assumes nothing.
-use Rattle.std.specs.Prelude.{ℕ, ◌≡◌, refl, Bool, true, false, ◌||◌, List, ◌++◌, length, take, drop, ltb}
+use Rattle.std.specs.Prelude.{ℕ, ◌≡◌, refl, Bool, true, false, ◌||◌, Result, Ok, Err, List, ◌++◌, length, take, drop, ltb}
 use Rattle.std.proofs.Common.{arith, sym, ap, ◌∙◌, take_at, le-ltb, ltb-false}
 use Rattle.syntax.specs.Bounds.{text_bytes}
 use Rattle.syntax.specs.Tree.{Ad, nodes}
@@ -17,14 +17,15 @@ use Rattle.ad.specs.Stored.{node_count}
 use Rattle.links.specs.Inner.Asked.{Formed}
 use Rattle.links.specs.Laws.Layout.{stored_nodes, stored_formed}
 use Rattle.printer.specs.Prints.{Roomy}
-use Rattle.ad_reader.specs.declared.Answer.{Answer}
-use Rattle.ad_reader.specs.declared.Answer.TheVariants.{Accepted, Refused}
+use Rattle.ad.specs.declared.Counts.{Counts}
+use Rattle.syntax.specs.Refusals.{refusal}
+use Rattle.syntax.specs.declared.Refusal.{Refusal}
 use Rattle.reader.specs.Content.{answer_of, answer, words_after, bytes_after, Answered}
 
 -- the text s was read as the tree a: 'accepted with its counts', and 'equal trees have equal content'
-pub record ReadAs (s w b w' b' : List ℕ) (r : Answer) (a : Ad) : Type 0 where
+pub record ReadAs (s w b w' b' : List ℕ) (r : Result Counts Refusal) (a : Ad) : Type 0 where
   pub reads : R.read s ≡ R.accepted a
-  pub answers : r ≡ Accepted (length a) (nodes a)
+  pub answers : r ≡ Ok (record { definitions = length a; nodes = nodes a })
   -- 'Unused room is zero after acceptance'; 'Memory lent beyond these sizes is never changed.'
   pub words : w' ≡ stored_words a ++ drop ad_words w
   pub bytes : b' ≡ stored_bytes a ++ drop ad_bytes_room b
@@ -37,7 +38,7 @@ short_text s a e = go (ltb text_bytes (length s)) refl
     go false h = refl
 
 -- A TEXT THAT READS AS A TREE IS ACCEPTED where there is room, and leaves the tree
-pub read_answered : {s w b w' b' : List ℕ} {r : Answer} (a : Ad) → Roomy w b → R.read s ≡ R.accepted a → Answered s w b w' b' r → ReadAs s w b w' b' r a
+pub read_answered : {s w b w' b' : List ℕ} {r : Result Counts Refusal} (a : Ad) → Roomy w b → R.read s ≡ R.accepted a → Answered s w b w' b' r → ReadAs s w b w' b' r a
 unfolding answer words_after bytes_after
 read_answered {s} {w} {b} {w'} {b'} a h e x =
     let l = short_text s a e in
@@ -51,19 +52,19 @@ read_answered {s} {w} {b} {w'} {b'} a h e x =
     }
 
 -- AN ACCEPTED READING leaves the tree that the text reads as
-pub accepted_tree : {s w b w' b' : List ℕ} {d n : ℕ} → Answered s w b w' b' (Accepted d n) → (a : Ad) × ReadAs s w b w' b' (Accepted d n) a
+pub accepted_tree : {s w b w' b' : List ℕ} {counts : Counts} → Answered s w b w' b' (Ok counts) → (a : Ad) × ReadAs s w b w' b' (Ok counts) a
 unfolding answer
-accepted_tree {s} {w} {b} {w'} {b'} {d} {n} x = go (ltb (length w) ad_words) refl (ltb (length b) ad_bytes_room) refl (R.read s) refl x.answers
+accepted_tree {s} {w} {b} {w'} {b'} {counts} x = go (ltb (length w) ad_words) refl (ltb (length b) ad_bytes_room) refl (R.read s) refl x.answers
   where
     go : (t : Bool) → ltb (length w) ad_words ≡ t → (u : Bool) → ltb (length b) ad_bytes_room ≡ u → (r : R.Answer) → R.read s ≡ r →
-        Accepted d n ≡ pick (t || u) (λ _. Refused 1 0) (λ _. answer_of r) → (a : Ad) × ReadAs s w b w' b' (Accepted d n) a
+        ◌≡◌ {A = Result Counts Refusal} (Ok counts) (pick (t || u) (λ _. Err (refusal 1 0)) (λ _. answer_of r)) → (a : Ad) × ReadAs s w b w' b' (Ok counts) a
     go true p u q r e h = let z : ◌≡◌ {A = ℕ} 0 1 = cc in absurd (omega arith)
     go false p true q r e h = let z : ◌≡◌ {A = ℕ} 0 1 = cc in absurd (omega arith)
     go false p false q (R.denied k m) e h = let z : ◌≡◌ {A = ℕ} 0 1 = cc in absurd (omega arith)
     go false p false q (R.accepted a) e h = (a, read_answered a (record { words = ltb-false (length w) ad_words p; bytes = ltb-false (length b) ad_bytes_room q }) e x)
 
 -- THE CONTRACT OF `read` LEAVES ONE ANSWER and one memory
-pub read_one : {s w b w₁ b₁ w₂ b₂ : List ℕ} {q r : Answer} → Answered s w b w₁ b₁ q → Answered s w b w₂ b₂ r → (q ≡ r) × (w₁ ≡ w₂) × (b₁ ≡ b₂)
+pub read_one : {s w b w₁ b₁ w₂ b₂ : List ℕ} {q r : Result Counts Refusal} → Answered s w b w₁ b₁ q → Answered s w b w₂ b₂ r → (q ≡ r) × (w₁ ≡ w₂) × (b₁ ≡ b₂)
 read_one x y = (x.answers ∙ sym y.answers, x.words ∙ sym y.words, x.bytes ∙ sym y.bytes)
 
 -- A TREE THAT A TEXT READS AS IS WELL FORMED where it is stored, as a match asks
@@ -74,7 +75,7 @@ read_formed s a e =
 
 -- ---- the front parts
 
-module _ {s w b w' b' : List ℕ} {r : Answer} {a : Ad} (x : ReadAs s w b w' b' r a) where
+module _ {s w b w' b' : List ℕ} {r : Result Counts Refusal} {a : Ad} (x : ReadAs s w b w' b' r a) where
   pub tree_holds : Holds (stored_words a) (stored_bytes a) a
   tree_holds = read_holds s a x.reads
 
