@@ -1,10 +1,11 @@
 -- The same of finished matches, and of texts.
-use Rattle.std.specs.Prelude.{ℕ, ◌+◌, ◌≤◌, ◌≡◌, Bool, List, [], length, take}
-use Rattle.std.proofs.Common.{arith}
+use Rattle.std.specs.Prelude.{ℕ, ◌+◌, ◌≤◌, ◌≡◌, Bool, Result, Ok, Err, List, [], length, take}
+use Rattle.std.proofs.Common.{arith, sym, subst}
 use Rattle.links.specs.Pair.{pair_slots}
 use Rattle.ad.specs.Layout.{ad_words, ad_bytes_room, stored_words, stored_bytes}
 use Rattle.links.specs.Inner.Asked.{Formed}
-use Rattle.ad_reader.specs.declared.Answer.TheVariants.{Accepted}
+use Rattle.ad.specs.declared.Counts.{Counts}
+use Rattle.syntax.specs.declared.Refusal.{Refusal}
 use Rattle.reader.specs.Content.{Answered}
 use Rattle.matching.specs.Matching as M
 use Rattle.matching.specs.Matching.{Match, Matched, matches, table_words}
@@ -27,22 +28,24 @@ record Inner (v b w c : List ℕ) (budget : ℕ) (r : Outcome) : Type 0 where
   pub second_formed : Formed (take ad_words w)
   pub is_match : Match (take ad_words v) (take ad_bytes_room b) (take ad_words w) (take ad_bytes_room c) budget values entries r
 
-inner : {v b w c : List ℕ} {budget : ℕ} {table list table' list' : List ℕ} {verdict : Bool} {i j steps : ℕ} {r : Outcome} → Matched v b w c budget table list table' list' r → FinishedAs verdict i j steps r → Inner v b w c budget r
-inner (M.refused e a t l) (k, q) = let z : ◌≡◌ {A = ℕ} 0 1 = cc in absurd (omega arith)
-inner {v} {b} {w} {c} (matches e values entries m t l) x = record { values = values; entries = entries; first_formed = formed_of v b e.first_well; second_formed = formed_of w c e.second_well; is_match = m }
+inner : {v b w c : List ℕ} {budget : ℕ} {table list table' list' : List ℕ} {r : Outcome} → Matched v b w c budget table list table' list' (Ok r) → Inner v b w c budget r
+inner (M.refused e a t l) = let z : ◌≡◌ {A = ℕ} 0 1 = cc in absurd (omega arith)
+inner {v} {b} {w} {c} {budget} {r = r} (matches {o} e f values entries m t l) =
+    let same : o ≡ r = cc in
+    subst (λ (x : Outcome). Inner v b w c budget x) same (record { values = values; entries = entries; first_formed = formed_of v b e.first_well; second_formed = formed_of w c e.second_well; is_match = m })
 
 -- IN ANY MEMORY, with two budgets that both finish, and whatever is lent for table and list
 pub matched_exchange_finished : {v b w c : List ℕ} {i j : ℕ} {table list table' list' table₂ list₂ table₂' list₂' : List ℕ} {verdict verdict' : Bool} {p q n p' q' n' : ℕ} {r s : Outcome} →
-    Matched v b w c i table list table' list' r → Matched w c v b j table₂ list₂ table₂' list₂' s → FinishedAs verdict p q n r → FinishedAs verdict' p' q' n' s →
+    Matched v b w c i table list table' list' (Ok r) → Matched w c v b j table₂ list₂ table₂' list₂' (Ok s) → FinishedAs verdict p q n r → FinishedAs verdict' p' q' n' s →
     Swapped verdict verdict' p q n p' q' n'
-matched_exchange_finished m m' x y = let k = inner m x in let k' = inner m' y in exchange_finished k.first_formed k.second_formed k.is_match k'.is_match x y
+matched_exchange_finished m m' x y = let k = inner m in let k' = inner m' in exchange_finished k.first_formed k.second_formed k.is_match k'.is_match x y
 
 -- and not exchanged: two finished matches of the same memory answer the same, whatever the budgets and what is lent for table and list
 pub matched_finished : {v b w c : List ℕ} {i j : ℕ} {table list table' list' table₂ list₂ table₂' list₂' : List ℕ} {verdict verdict' : Bool} {p q n p' q' n' : ℕ} {r s : Outcome} →
-    Matched v b w c i table list table' list' r → Matched v b w c j table₂ list₂ table₂' list₂' s → FinishedAs verdict p q n r → FinishedAs verdict' p' q' n' s → r ≡ s
+    Matched v b w c i table list table' list' (Ok r) → Matched v b w c j table₂ list₂ table₂' list₂' (Ok s) → FinishedAs verdict p q n r → FinishedAs verdict' p' q' n' s → r ≡ s
 matched_finished {v} {b} {w} {c} {i} {j} m m' x y =
-    let k = inner m x in
-    let k' = inner m' y in
+    let k = inner m in
+    let k' = inner m' in
     (match_one (take ad_words v) (take ad_bytes_room b) (take ad_words w) (take ad_bytes_room c) (i + j)
     (match_budget (i + j) k.is_match (covers k.is_match x) (let h = covers k.is_match x in omega arith))
     (match_budget (i + j) k'.is_match (covers k'.is_match y) (let h = covers k'.is_match y in omega arith))).answers
@@ -72,7 +75,10 @@ texts_answer_exchange x y =
     (at_most y.verdict y.first_rank y.second_rank y.steps y.count n (omega arith))
 
 -- OF TWO ACCEPTED TEXTS, read and matched both ways, in any memory with room
-pub accepted_exchange : {s t v₀ b₀ w₀ c₀ v b w c : List ℕ} {d n d' n' budget : ℕ} {table list table' list' table₂ list₂ table₂' list₂' : List ℕ} {r r' : Outcome} →
-    Answered s v₀ b₀ v b (Accepted d n) → Answered t w₀ c₀ w c (Accepted d' n') → table_words ≤ length table → pair_slots ≤ length list → table_words ≤ length table₂ → pair_slots ≤ length list₂ →
-    Matched v b w c budget table list table' list' r → Matched w c v b budget table₂ list₂ table₂' list₂' r' → Exchanged r r'
-accepted_exchange x y h l h' l' m m' = texts_exchange (texts_match x y h l m) (texts_match y x h' l' m')
+pub accepted_exchange : {s t v₀ b₀ w₀ c₀ v b w c : List ℕ} {counts counts' : Counts} {budget : ℕ} {table list table' list' table₂ list₂ table₂' list₂' : List ℕ} {r r' : Result Outcome Refusal} →
+    Answered s v₀ b₀ v b (Ok counts) → Answered t w₀ c₀ w c (Ok counts') → table_words ≤ length table → pair_slots ≤ length list → table_words ≤ length table₂ → pair_slots ≤ length list₂ →
+    Matched v b w c budget table list table' list' r → Matched w c v b budget table₂ list₂ table₂' list₂' r' → (o o' : Outcome) × (r ≡ Ok o) × (r' ≡ Ok o') × Exchanged o o'
+accepted_exchange x y h l h' l' m m' =
+    let p = texts_match x y h l m in
+    let q = texts_match y x h' l' m' in
+    (p.0, q.0, p.1, q.1, texts_exchange p.2 q.2)

@@ -1,6 +1,6 @@
 -- THE TWO ADS EXCHANGED, in terms of what callers hold: two matches in any memory are refused alike, or the verdict is kept and the ranks
 -- change places; also with two budgets, where both finish; and of two texts. Assumes nothing.
-use Rattle.std.specs.Prelude.{ℕ, ◌+◌, ◌≤◌, ◌<◌, ◌≡◌, refl, Bool, true, false, cond, ◌||◌, List, length, take, ltb}
+use Rattle.std.specs.Prelude.{ℕ, ◌+◌, ◌≤◌, ◌<◌, ◌≡◌, refl, Bool, true, false, cond, ◌||◌, Result, Ok, Err, List, length, take, ltb}
 use Rattle.std.proofs.Math.Decide.{dec_lt}
 use Rattle.std.proofs.Common.{arith, sym, ap, ◌∙◌, true≢false, le-ltb}
 use Rattle.std.proofs.Math.Bool.{or-true}
@@ -13,7 +13,9 @@ use Rattle.admission.specs.Admission.{Refuses, no_room, first_malformed, second_
 use Rattle.admission.specs.Laws.Wells.{formed_of}
 use Rattle.matching.proofs.Laws.Exchange.{Exchanged, finished, unfinished, exchange}
 use Rattle.matching.specs.declared.Outcome.{Outcome}
-use Rattle.matching.specs.declared.Outcome.TheVariants.{Refused, Finished, Unfinished}
+use Rattle.matching.specs.declared.Outcome.TheVariants.{Finished, Unfinished}
+use Rattle.syntax.specs.Refusals.{number_of, refusal}
+use Rattle.syntax.specs.declared.Refusal.{Refusal}
 use Rattle.theorems.specs.Existing.{TheAnswer, answer_at}
 use Rattle.theorems.proofs.Laws.Budgets.{match_budget}
 use Rattle.theorems.specs.Exchanging.{Turns, refused, answered, FinishedAs, Swapped, short}
@@ -83,13 +85,14 @@ module _ (v b w c table list table₂ list₂ : List ℕ) (same : short table li
 
 -- IN ANY MEMORY: two matches of the same memory with the ads exchanged, with the same budget; the rooms lent for table and list may be
 -- others, if both are large enough or neither is
-pub matched_exchange : {v b w c : List ℕ} {budget : ℕ} {table list table' list' table₂ list₂ table₂' list₂' : List ℕ} {r s : Outcome} → short table list ≡ short table₂ list₂ →
+pub matched_exchange : {v b w c : List ℕ} {budget : ℕ} {table list table' list' table₂ list₂ table₂' list₂' : List ℕ} {r s : Result Outcome Refusal} → short table list ≡ short table₂ list₂ →
     Matched v b w c budget table list table' list' r → Matched w c v b budget table₂ list₂ table₂' list₂' s → Turns r s
-matched_exchange {v} {b} {w} {c} {table = table} {list} {table₂ = table₂} {list₂} same (M.refused x a t l) (M.refused x' a' t' l') =
-    refused a (a' ∙ ap (λ (k : ℕ). Refused k 0) (sym (refuses_turned v b w c table list table₂ list₂ same x x')))
-matched_exchange {v} {b} {w} {c} {table = table} {list} {table₂ = table₂} {list₂} same (M.refused x a t l) (matches e values entries m t' l') =
+matched_exchange {v} {b} {w} {c} {table = table} {list} {table₂ = table₂} {list₂} same (M.refused {k} x a t l) (M.refused x' a' t' l') =
+    refused (record { told = refusal k 0; answers = a; number = refl; at = refl })
+    (record { told = refusal k 0; answers = a' ∙ ap (λ (k : ℕ). Err (refusal k 0)) (sym (refuses_turned v b w c table list table₂ list₂ same x x')); number = refl; at = refl })
+matched_exchange {v} {b} {w} {c} {table = table} {list} {table₂ = table₂} {list₂} same (M.refused x a t l) (matches e f values entries m t' l') =
     absurd (refused_not_admitted x (admits_turned w c v b table₂ list₂ table list (sym same) e))
-matched_exchange {v} {b} {w} {c} {table = table} {list} {table₂ = table₂} {list₂} same (matches e values entries m t l) (M.refused x a' t' l') =
+matched_exchange {v} {b} {w} {c} {table = table} {list} {table₂ = table₂} {list₂} same (matches e f values entries m t l) (M.refused x a' t' l') =
     absurd (refused_not_admitted x (admits_turned v b w c table list table₂ list₂ same e))
-matched_exchange {v} {b} {w} {c} same (matches e values entries m t l) (matches e' values' entries' m' t' l') =
-    answered (exchange (take ad_words v) (take ad_bytes_room b) (take ad_words w) (take ad_bytes_room c) (formed_of v b e.first_well) (formed_of w c e.second_well) m m')
+matched_exchange {v} {b} {w} {c} same (matches e f values entries m t l) (matches e' f' values' entries' m' t' l') =
+    answered f f' (exchange (take ad_words v) (take ad_bytes_room b) (take ad_words w) (take ad_bytes_room c) (formed_of v b e.first_well) (formed_of w c e.second_well) m m')

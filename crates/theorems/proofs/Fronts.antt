@@ -1,14 +1,14 @@
 -- OF LENT MEMORY ONLY THE ROOM'S FRONT PART COUNTS: memory with the same front parts has the same matches. So an ad that is printed and
 -- read back, into any memory, matches as before. Assumes nothing.
-use Rattle.std.specs.Prelude.{ℕ, ◌<◌, ◌≤◌, ◌≡◌, ◌||◌, refl, List, length, take, drop, ltb}
+use Rattle.std.specs.Prelude.{ℕ, ◌<◌, ◌≤◌, ◌≡◌, ◌||◌, refl, Result, Ok, List, length, take, drop, ltb}
 use Rattle.std.proofs.Math.Decide.{dec_lt}
 use Rattle.std.proofs.Common.{arith, sym, ap, ap₂, ◌∙◌, subst, length-take, take_at, le-ltb, lt-ltb}
 use Rattle.ad.specs.Layout.{ad_words, ad_bytes_room}
 use Rattle.well_formed.specs.WellFormed.{Holds}
 use Rattle.well_formed.specs.Laws.Whole.{holds_long}
 use Rattle.printer.specs.Prints.{Roomy, Prints}
-use Rattle.printer.specs.declared.Printed.TheVariants.{Text}
-use Rattle.ad_reader.specs.declared.Answer.{Answer}
+use Rattle.ad.specs.declared.Counts.{Counts}
+use Rattle.syntax.specs.declared.Refusal.{Refusal}
 use Rattle.reader.specs.Content.{Answered}
 use Rattle.matching.specs.Matching.{Matched, refused, matches, small, table_words}
 use Rattle.admission.specs.Admission.{Well, Refuses, no_room, first_malformed, second_malformed, Admits}
@@ -61,13 +61,13 @@ module _ {v b w c v₁ b₁ w₁ c₁ : List ℕ} (s : SameFront v b v₁ b₁) 
   admits_front a = record { roomy = roomy_front ∙ a.roomy; first_well = well_front s a.first_well; second_well = well_front t a.second_well }
 
 -- MEMORY WITH THE SAME FRONT PARTS HAS THE SAME MATCHES, refused ones too
-pub matched_front : {v b w c v₁ b₁ w₁ c₁ : List ℕ} {budget : ℕ} {table list table' list' : List ℕ} {r : Outcome} → SameFront v b v₁ b₁ → SameFront w c w₁ c₁ →
+pub matched_front : {v b w c v₁ b₁ w₁ c₁ : List ℕ} {budget : ℕ} {table list table' list' : List ℕ} {r : Result Outcome Refusal} → SameFront v b v₁ b₁ → SameFront w c w₁ c₁ →
     Matched v b w c budget table list table' list' r → Matched v₁ b₁ w₁ c₁ budget table list table' list' r
 matched_front {table = table} {list} s t (refused e a p q) = refused (refuses_front s t table list e) a p q
-matched_front {table = table} {list} s t (matches e values entries m p q) = matches (admits_front s t table list e) values entries (match_cast s.words s.bytes t.words t.bytes m) p q
+matched_front {table = table} {list} s t (matches e f values entries m p q) = matches (admits_front s t table list e) f values entries (match_cast s.words s.bytes t.words t.bytes m) p q
 
 -- what is read back has the front parts that were printed
-pub back_front : {w b w₀ b₀ w₁ b₁ : List ℕ} {r : Answer} → ReadBack w b w₀ b₀ w₁ b₁ r → SameFront w b w₁ b₁
+pub back_front : {w b w₀ b₀ w₁ b₁ : List ℕ} {r : Result Counts Refusal} → ReadBack w b w₀ b₀ w₁ b₁ r → SameFront w b w₁ b₁
 back_front {w} {b} {w₀} {b₀} x =
     let l = holds_long x.tree x.stored in
     record {
@@ -77,7 +77,7 @@ back_front {w} {b} {w₀} {b₀} x =
 
 -- AN AD THAT IS PRINTED AND READ BACK MATCHES AS BEFORE: two printed ads, read back into any memory with room; `matched_one` says that no
 -- other answer can be given, and no other memory left
-pub printed_matches : {v b w c o o₁ u u₁ v₀ b₀ w₀ c₀ v₂ b₂ w₂ c₂ : List ℕ} {n k budget : ℕ} {x y : Answer} {table list table' list' : List ℕ} {r : Outcome} → Prints v b o o₁ (Text n) → Prints w c u u₁ (Text k) →
+pub printed_matches : {v b w c o o₁ u u₁ v₀ b₀ w₀ c₀ v₂ b₂ w₂ c₂ : List ℕ} {n k budget : ℕ} {x y : Result Counts Refusal} {table list table' list' : List ℕ} {r : Result Outcome Refusal} → Prints v b o o₁ (Ok n) → Prints w c u u₁ (Ok k) →
     Roomy v₀ b₀ → Roomy w₀ c₀ → Answered (take n o₁) v₀ b₀ v₂ b₂ x → Answered (take k u₁) w₀ c₀ w₂ c₂ y →
     Matched v b w c budget table list table' list' r → Matched v₂ b₂ w₂ c₂ budget table list table' list' r
 printed_matches p q h l x y m = matched_front (back_front (print_then_read p h x)) (back_front (print_then_read q l y)) m

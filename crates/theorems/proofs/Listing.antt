@@ -1,6 +1,6 @@
 -- THE LIST OF A MATCH: no entry stands twice, and there are no more entries than the two ads have nodes. So no match takes more steps
 -- than that, and a budget of 2,048 is always enough. Assumes nothing.
-use Rattle.std.specs.Prelude.{ℕ, ◌+◌, ◌≤◌, ◌<◌, min, ◌≡◌, List, length, take}
+use Rattle.std.specs.Prelude.{ℕ, ◌+◌, ◌≤◌, ◌<◌, min, ◌≡◌, Result, Ok, Err, List, length, take}
 use Rattle.std.proofs.Math.Decide.{dec_lt}
 use Rattle.std.proofs.Common.{arith, sym, ap, ◌∙◌, subst}
 use Rattle.ad.specs.Layout.{ad_words}
@@ -15,7 +15,7 @@ use Rattle.links.specs.Laws.Soundness.{pair_sound}
 use Rattle.matching.specs.Matching.{Match, Matched, refused, matches}
 use Rattle.admission.specs.Laws.Wells.{formed_of}
 use Rattle.matching.specs.declared.Outcome.{Outcome}
-use Rattle.matching.specs.declared.Outcome.TheVariants.{Refused}
+use Rattle.syntax.specs.declared.Refusal.{Refusal}
 use Rattle.theorems.specs.Listing.{steps_of, count_of, Done, Listed, Within}
 
 -- OF EVERY MATCH of two well-formed ads
@@ -59,18 +59,20 @@ match_list {v} {b} {w} {c} {budget} {table} {list} {r} f g m = record {
             ap steps_of (m.finished l).answers ∙ (let z : length m.order ≡ min budget (length m.order) = omega arith in z)
 
 -- OF EVERY MATCH IN ANY MEMORY that is not refused
-pub matched_list : {v b w c : List ℕ} {budget : ℕ} {table list table' list' : List ℕ} {r : Outcome} → Matched v b w c budget table list table' list' r → ((k p : ℕ) → r ≡ Refused k p → ⊥) →
+pub matched_list : {v b w c : List ℕ} {budget : ℕ} {table list table' list' : List ℕ} {r : Result Outcome Refusal} → Matched v b w c budget table list table' list' r → ((e : Refusal) → r ≡ Err e → ⊥) →
     Within (node_count (take ad_words v) + node_count (take ad_words w)) budget r
-matched_list (refused e a t l) u = absurd (u _ 0 a)
-matched_list {v} {b} {w} {c} {budget} {r = r} (matches e values entries m t l) u =
+matched_list (refused e a t l) u = absurd (u _ a)
+matched_list {v} {b} {w} {c} {budget} (matches {o} e a values entries m t l) u =
     let x = match_list (formed_of v b e.first_well) (formed_of w c e.second_well) m in
     record {
+      outcome = o;
+      answers = a;
       few_steps = x.few_steps;
       in_budget = let s = x.steps in omega arith;
       finishes = λ k. counted (x.finishes k);
       always = λ k. counted (x.always k);
     }
   where
-    counted : {n k : ℕ} → Done n k r → Done (steps_of r) (count_of r) r
+    counted : {n k : ℕ} → Done n k o → Done (steps_of o) (count_of o) o
     counted {n} {k} d =
-        subst (λ (y : ℕ). Done (steps_of r) y r) (sym (ap count_of d.answers)) (subst (λ (x : ℕ). Done x k r) (sym (ap steps_of d.answers)) d)
+        subst (λ (y : ℕ). Done (steps_of o) y o) (sym (ap count_of d.answers)) (subst (λ (x : ℕ). Done x k o) (sym (ap steps_of d.answers)) d)

@@ -1,10 +1,11 @@
 -- What the memory shows of the worked examples. Assumes nothing.
-use Rattle.std.specs.Prelude.{ℕ, suc, ◌-◌, ◌≤◌, ◌≡◌, List, [], ◌∷◌, ◌++◌, map, length, drop, replicate}
+use Rattle.std.specs.Prelude.{ℕ, suc, ◌-◌, ◌≤◌, ◌≡◌, Result, Ok, List, [], ◌∷◌, ◌++◌, map, length, drop, replicate}
 use Rattle.links.specs.Pair.{pair_slots}
 use Rattle.syntax.specs.Tree.{Ad}
 use Rattle.ad.specs.Layout.{stored_words, stored_bytes}
 use Rattle.printer.specs.Prints.{Roomy}
-use Rattle.ad_reader.specs.declared.Answer.{Answer}
+use Rattle.ad.specs.declared.Counts.{Counts}
+use Rattle.syntax.specs.declared.Refusal.{Refusal}
 use Rattle.reader.specs.Content.{Answered}
 use Rattle.matching.specs.Matching.{Matched, table_words}
 use Rattle.matching.specs.declared.Outcome.{Outcome}
@@ -22,9 +23,9 @@ pub record Shown (row : Row) (budget : ℕ) (table list table' list' : List ℕ)
 
 -- the row's texts are read into any memory that is large enough, and what is left is matched, with any budget
 pub record Shows (row : Row) : Type 0 where
-  pub shows : {v₀ b₀ w₀ c₀ v b w c : List ℕ} {x y : Answer} {budget : ℕ} {table list table' list' : List ℕ} {r : Outcome} → Roomy v₀ b₀ → Roomy w₀ c₀ →
+  pub shows : {v₀ b₀ w₀ c₀ v b w c : List ℕ} {x y : Result Counts Refusal} {budget : ℕ} {table list table' list' : List ℕ} {r : Result Outcome Refusal} → Roomy v₀ b₀ → Roomy w₀ c₀ →
       Answered row.first v₀ b₀ v b x → Answered row.second w₀ c₀ w c y → table_words ≤ length table → pair_slots ≤ length list →
-      Matched v b w c budget table list table' list' r → Shown row budget table list table' list' r
+      Matched v b w c budget table list table' list' r → (o : Outcome) × (r ≡ Ok o) × Shown row budget table list table' list' o
 
 -- 'W1 to W12 stand as one statement over one table'
 unfoldable pub AllShow : List Row → Type 0

@@ -3,7 +3,8 @@
 -- for `match_ads`, `Ordered` for `order_ads`. Words and bytes are an ad's lent memory, ₁ is the first ad and ₂ the second, `old` is what
 -- memory held before a call, and ' is what it holds after. `read` and `parse` are document 01's reading as a function, with the bound on
 -- the text's length and without. Assumes nothing.
-use Rattle.std.specs.Prelude.{ℕ, suc, ◌+◌, ◌-◌, ◌*◌, ◌^◌, ◌≤◌, ◌<◌, min, ◌≡◌, refl, ◌↔◌, ◌⊎◌, ◌≢◌, Bool, true, false, cond, ◌&&◌, ◌||◌, length, get_or, take, drop, replicate, T, ltb, pos, nat_abs, Float}
+use Rattle.std.specs.Prelude.{ℕ, suc, ◌+◌, ◌-◌, ◌*◌, ◌^◌, ◌≤◌, ◌<◌, min, ◌≡◌, refl, ◌↔◌, ◌⊎◌, ◌≢◌, Bool, true, false, cond, ◌&&◌, ◌||◌, Option, Some, None, Result, Ok, Err, length, get_or, take, drop, replicate, T, ltb, pos, nat_abs, Float}
+use Rattle.std.proofs.Common.{ap, ◌∙◌}
 use mathlib.Core.List.{List, [], ◌∷◌, ◌++◌, map, Memᴰ}
 use Rattle.std.specs.Float.{Format, binary64}
 use Rattle.std.specs.Float.Ieee.{round, fits}
@@ -26,12 +27,9 @@ use Rattle.round_trip.proofs.Laws.WithoutPair as parentheses
 use Rattle.well_formed.specs.WellFormed.{Holds, Answers}
 use Rattle.well_formed.specs.Laws.Bounds as bounds
 use Rattle.well_formed.specs.declared.Checked.{Checked}
-use Rattle.well_formed.specs.declared.Checked.TheVariants.{WellFormed, Malformed}
-use Rattle.ad_reader.specs.declared.Answer.{Answer}
-use Rattle.ad_reader.specs.declared.Answer.TheVariants as reading
+use Rattle.ad.specs.declared.Counts.{Counts}
+use Rattle.syntax.specs.declared.Refusal.{Refusal}
 use Rattle.reader.specs.Content.{answer, words_after, bytes_after, Answered}
-use Rattle.printer.specs.declared.Printed.{Printed}
-use Rattle.printer.specs.declared.Printed.TheVariants as printed
 use Rattle.printer.specs.Prints.{Roomy, Prints, HandsBack}
 use Rattle.integers.specs.Integers.{width, signed}
 use Rattle.rounding.specs.Nearest.{Nearest}
@@ -74,13 +72,14 @@ use Rattle.matching.proofs.Laws.Running as running
 use Rattle.matching.specs.declared.Outcome.{Outcome}
 use Rattle.matching.specs.declared.Outcome.TheVariants as outcome
 use Rattle.ordering.specs.Ordering.{Ordered}
-use Rattle.ordering.specs.declared.Order.TheVariants.{Found}
+use Rattle.ordering.specs.declared.Order.{Order}
 use Rattle.worked.specs.Table.{table as examples, fault}
 use Rattle.acceptance.proofs.Acceptance as acceptance
 use Rattle.trees.specs.Nodes.{last_of}
 use Rattle.trees.specs.Links.{tree_graph}
 use Rattle.trees.specs.Values.{ad_of, Returns, Means, Same, Worths, Part, FromLiteral}
 use Rattle.trees.proofs.Theorems as trees
+use Rattle.theorems.specs.Refusing.{RefusedWith}
 use Rattle.theorems.specs.Listing.{steps_of, count_of}
 use Rattle.text_theorems.specs.Reading as readings
 use Rattle.theorems.proofs.Texts as texts
@@ -117,40 +116,43 @@ longest_token_wins = longest.longest_token
 
 -- A text that reads as a tree is accepted by `read` where there is room, with its counts, and its tree is left in front. 'Unused room is
 -- zero after acceptance'; 'Memory lent beyond these sizes is never changed.'
-pub read_accepts : {text old_words old_bytes words' bytes' : List ℕ} {answer : Answer} {tree : Ad} → Roomy old_words old_bytes → read text ≡ accepted tree → Answered text old_words old_bytes words' bytes' answer →
-    (answer ≡ reading.Accepted (length tree) (nodes tree)) × (words' ≡ stored_words tree ++ drop ad_words old_words) × (bytes' ≡ stored_bytes tree ++ drop ad_bytes_room old_bytes)
+pub read_accepts : {text old_words old_bytes words' bytes' : List ℕ} {answer : Result Counts Refusal} {tree : Ad} → Roomy old_words old_bytes → read text ≡ accepted tree → Answered text old_words old_bytes words' bytes' answer →
+    (answer ≡ Ok (record { definitions = length tree; nodes = nodes tree })) × (words' ≡ stored_words tree ++ drop ad_words old_words) × (bytes' ≡ stored_bytes tree ++ drop ad_bytes_room old_bytes)
 read_accepts {tree = tree} room reads call = let x = readings.read_answered tree room reads call in (x.answers, x.words, x.bytes)
 
 -- And nothing else is accepted: a text that `read` accepts reads as a tree, which is left in front.
-pub read_accepts_only : {text old_words old_bytes words' bytes' : List ℕ} {definitions count : ℕ} → Answered text old_words old_bytes words' bytes' (reading.Accepted definitions count) →
-    (tree : Ad) × (read text ≡ accepted tree) × (reading.Accepted definitions count ≡ reading.Accepted (length tree) (nodes tree)) ×
+pub read_accepts_only : {text old_words old_bytes words' bytes' : List ℕ} {counts : Counts} → Answered text old_words old_bytes words' bytes' (Ok counts) →
+    (tree : Ad) × (read text ≡ accepted tree) × (counts ≡ record { definitions = length tree; nodes = nodes tree }) ×
     (words' ≡ stored_words tree ++ drop ad_words old_words) × (bytes' ≡ stored_bytes tree ++ drop ad_bytes_room old_bytes)
-read_accepts_only call = let x = readings.accepted_tree call in (x.0, x.1.reads, x.1.answers, x.1.words, x.1.bytes)
+read_accepts_only {counts = counts} call =
+    let x = readings.accepted_tree call in
+    let e : ◌≡◌ {A = Result Counts Refusal} (Ok counts) (Ok (record { definitions = length x.0; nodes = nodes x.0 })) = x.1.answers in
+    (x.0, x.1.reads, cc, x.1.words, x.1.bytes)
 
 -- a call of `read`, whatever text and memory it is lent
-module _ {text old_words old_bytes words' bytes' : List ℕ} {result : Answer} (call : Answered text old_words old_bytes words' bytes' result) where
+module _ {text old_words old_bytes words' bytes' : List ℕ} {result : Result Counts Refusal} (call : Answered text old_words old_bytes words' bytes' result) where
   -- 'A refusal carries its number and a place ..; the first token that breaks a rule decides, its first byte is the place ... At one token
   -- the order is 3, 7, 5, 4, 6, 8, 9.' Where there is room, `read` refuses with a number at a place exactly if document 01 says so, which
   -- `Refused` says over the text's tokens, with no reader in it.
-  pub read_refuses : Roomy old_words old_bytes → (number place : ℕ) → (result ≡ reading.Refused number place) ↔ Refused text number place
+  pub read_refuses : Roomy old_words old_bytes → (number place : ℕ) → RefusedWith result number place ↔ Refused text number place
   read_refuses = calls.answered_refusal call
 
   -- Refusal 1: 'lent room smaller than above', 'all unchanged'.
-  pub read_without_room : ¬ (Roomy old_words old_bytes) → (result ≡ reading.Refused 1 0) × (words' ≡ old_words) × (bytes' ≡ old_bytes)
+  pub read_without_room : ¬ (Roomy old_words old_bytes) → RefusedWith result 1 0 × (words' ≡ old_words) × (bytes' ≡ old_bytes)
   read_without_room = calls.small_leaves call
 
   -- Refusal 2: 'text over 16,384 bytes', 'all unchanged'.
-  pub read_too_long : Roomy old_words old_bytes → 16384 < length text → (result ≡ reading.Refused 2 0) × (words' ≡ old_words) × (bytes' ≡ old_bytes)
+  pub read_too_long : Roomy old_words old_bytes → 16384 < length text → RefusedWith result 2 0 × (words' ≡ old_words) × (bytes' ≡ old_bytes)
   read_too_long = calls.long_leaves call
 
   -- Every other refusal leaves 'ad memory zero', and what is lent beyond the room as it was.
-  pub read_refused_leaves : Roomy old_words old_bytes → length text ≤ 16384 → (number place : ℕ) → result ≡ reading.Refused number place →
+  pub read_refused_leaves : Roomy old_words old_bytes → length text ≤ 16384 → (number place : ℕ) → RefusedWith result number place →
       (words' ≡ replicate ad_words 0 ++ drop ad_words old_words) × (bytes' ≡ replicate ad_bytes_room 0 ++ drop ad_bytes_room old_bytes)
   read_refused_leaves = calls.refused_leaves call
 
 -- `read` has one answer and leaves one content, whatever text and memory it is lent.
-pub read_is_one : (text old_words old_bytes : List ℕ) → (words' bytes' : List ℕ) × (result : Answer) × Answered text old_words old_bytes words' bytes' result ×
-    ((words'' bytes'' : List ℕ) (other : Answer) → Answered text old_words old_bytes words'' bytes'' other → (other ≡ result) × (words'' ≡ words') × (bytes'' ≡ bytes'))
+pub read_is_one : (text old_words old_bytes : List ℕ) → (words' bytes' : List ℕ) × (result : Result Counts Refusal) × Answered text old_words old_bytes words' bytes' result ×
+    ((words'' bytes'' : List ℕ) (other : Result Counts Refusal) → Answered text old_words old_bytes words'' bytes'' other → (other ≡ result) × (words'' ≡ words') × (bytes'' ≡ bytes'))
 read_is_one text old_words old_bytes =
     let here : Answered text old_words old_bytes (words_after text old_words old_bytes) (bytes_after text old_words old_bytes) (answer text old_words old_bytes) = record { answers = refl; words = refl; bytes = refl } in
     (_, _, _, here, λ words'' bytes'' other call. readings.read_one call here)
@@ -163,8 +165,8 @@ pub equal_content_equal_tree : (text text' : List ℕ) (tree tree' : Ad) → par
 equal_content_equal_tree = content.accepted_content
 
 -- 'a stored ad is well formed exactly if reading some text, were its length not bounded, would leave exactly this content, zeros included':
--- `check` says Malformed exactly if there is no such text.
-pub check_refuses : (words bytes : List ℕ) → Answers words bytes Malformed ↔
+-- `check` says nothing exactly if there is no such text.
+pub check_refuses : (words bytes : List ℕ) → Answers words bytes None ↔
     ¬ ((text : List ℕ) × (tree : Ad) × (parse text ≡ accepted tree) × (length (ad_bytes tree) ≤ 16384) × (take ad_words words ≡ stored_words tree) × (take ad_bytes_room bytes ≡ stored_bytes tree))
 check_refuses words bytes = (
   (λ none x. none x.1 (record { text = x.0; reads = x.2; fits = x.3; words = x.4; bytes = x.5 })),
@@ -176,28 +178,28 @@ pub well_formed_is_bounded : {words bytes : List ℕ} {tree : Ad} → Holds word
 well_formed_is_bounded = ((λ held. (bounds.bounded held, held.fits, held.words, held.bytes)), λ x. bounds.holds x.0 x.1 x.2 x.3)
 
 -- `check` has one answer, whatever numbers it is lent.
-pub check_is_one : (words bytes : List ℕ) → (result : Checked) × Answers words bytes result × ((other : Checked) → Answers words bytes other → other ≡ result)
+pub check_is_one : (words bytes : List ℕ) → (result : Option Checked) × Answers words bytes result × ((other : Option Checked) → Answers words bytes other → other ≡ result)
 check_is_one words bytes = let x = answering.check_exists words bytes in (x.0, x.1, λ other call. printing.check_one words bytes other x.0 call x.1)
 
 -- What `read` accepts and leaves, `check` passes, with the same counts.
-pub read_then_check : {text old_words old_bytes words' bytes' : List ℕ} {definitions count : ℕ} → Answered text old_words old_bytes words' bytes' (reading.Accepted definitions count) →
-    (printed_length : ℕ) × Answers words' bytes' (WellFormed definitions count printed_length)
+pub read_then_check : {text old_words old_bytes words' bytes' : List ℕ} {counts : Counts} → Answered text old_words old_bytes words' bytes' (Ok counts) →
+    (printed_length : ℕ) × Answers words' bytes' (Some (record { counts = counts; print_length = printed_length }))
 read_then_check = calls.read_then_check
 
 -- ==== Printing
 
 -- A printed ad reads back as the same tree: what `print` wrote, `read` accepts, in any memory with room, and it leaves the words and bytes
 -- that were printed.
-pub print_then_read : (words bytes : List ℕ) {output output' old_words old_bytes words' bytes' : List ℕ} {n : ℕ} {answer : Answer} → Prints words bytes output output' (printed.Text n) → Roomy old_words old_bytes →
+pub print_then_read : (words bytes : List ℕ) {output output' old_words old_bytes words' bytes' : List ℕ} {n : ℕ} {answer : Result Counts Refusal} → Prints words bytes output output' (Ok n) → Roomy old_words old_bytes →
     Answered (take n output') old_words old_bytes words' bytes' answer →
-    (tree : Ad) × Holds (take ad_words words) (take ad_bytes_room bytes) tree × (answer ≡ reading.Accepted (length tree) (nodes tree)) ×
+    (tree : Ad) × Holds (take ad_words words) (take ad_bytes_room bytes) tree × (answer ≡ Ok (record { definitions = length tree; nodes = nodes tree })) ×
     (words' ≡ take ad_words words ++ drop ad_words old_words) × (bytes' ≡ take ad_bytes_room bytes ++ drop ad_bytes_room old_bytes)
 print_then_read words bytes prints room call = let x = printing.print_then_read {w = words} {b = bytes} prints room call in (x.tree, x.stored, x.answers, x.words, x.bytes)
 
 -- 'The text is handed back as the front part of the caller's output': so it is of what `text` hands back, unless that is empty.
-pub text_then_read : {words bytes output handed old_words old_bytes words' bytes' : List ℕ} {answer : Answer} → HandsBack words bytes output handed → ¬ (handed ≡ []) → Roomy old_words old_bytes →
+pub text_then_read : {words bytes output handed old_words old_bytes words' bytes' : List ℕ} {answer : Result Counts Refusal} → HandsBack words bytes output handed → ¬ (handed ≡ []) → Roomy old_words old_bytes →
     Answered handed old_words old_bytes words' bytes' answer →
-    (tree : Ad) × Holds (take ad_words words) (take ad_bytes_room bytes) tree × (answer ≡ reading.Accepted (length tree) (nodes tree)) ×
+    (tree : Ad) × Holds (take ad_words words) (take ad_bytes_room bytes) tree × (answer ≡ Ok (record { definitions = length tree; nodes = nodes tree })) ×
     (words' ≡ take ad_words words ++ drop ad_words old_words) × (bytes' ≡ take ad_bytes_room bytes ++ drop ad_bytes_room old_bytes)
 text_then_read hands some room call = let x = printing.text_then_read hands some room call in (x.tree, x.stored, x.answers, x.words, x.bytes)
 
@@ -211,8 +213,8 @@ pub no_pair_can_go : (tree : Ad) (definitions : List ℕ) → DefinitionsWithout
 no_pair_can_go = parentheses.pair_needed
 
 -- `print` has one answer and leaves one output, whatever it is lent.
-pub print_is_one : (words bytes output : List ℕ) → (output' : List ℕ) × (result : Printed) × Prints words bytes output output' result ×
-    ((output'' : List ℕ) (other : Printed) → Prints words bytes output output'' other → (other ≡ result) × (output'' ≡ output'))
+pub print_is_one : (words bytes output : List ℕ) → (output' : List ℕ) × (result : Result ℕ Refusal) × Prints words bytes output output' result ×
+    ((output'' : List ℕ) (other : Result ℕ Refusal) → Prints words bytes output output'' other → (other ≡ result) × (output'' ≡ output'))
 print_is_one words bytes output = let x = answering.print_exists printed_ad words bytes output in (x.0, x.1, x.2, λ output'' other call. printing.print_one words bytes output other x.1 call x.2)
 
 -- `text` hands back one text.
@@ -220,8 +222,8 @@ pub text_is_one : (words bytes output : List ℕ) {handed handed' : List ℕ} �
 text_is_one = printing.text_one
 
 -- Two ads that are printed and read back, into any memory with room, match as before.
-pub print_then_match : {words₁ bytes₁ words₂ bytes₂ output₁ output₁' output₂ output₂' old_words₁ old_bytes₁ old_words₂ old_bytes₂ words₁' bytes₁' words₂' bytes₂' : List ℕ} {n₁ n₂ budget : ℕ} {answer₁ answer₂ : Answer}
-    {table list table' list' : List ℕ} {result : Outcome} → Prints words₁ bytes₁ output₁ output₁' (printed.Text n₁) → Prints words₂ bytes₂ output₂ output₂' (printed.Text n₂) →
+pub print_then_match : {words₁ bytes₁ words₂ bytes₂ output₁ output₁' output₂ output₂' old_words₁ old_bytes₁ old_words₂ old_bytes₂ words₁' bytes₁' words₂' bytes₂' : List ℕ} {n₁ n₂ budget : ℕ} {answer₁ answer₂ : Result Counts Refusal}
+    {table list table' list' : List ℕ} {result : Result Outcome Refusal} → Prints words₁ bytes₁ output₁ output₁' (Ok n₁) → Prints words₂ bytes₂ output₂ output₂' (Ok n₂) →
     Roomy old_words₁ old_bytes₁ → Roomy old_words₂ old_bytes₂ → Answered (take n₁ output₁') old_words₁ old_bytes₁ words₁' bytes₁' answer₁ → Answered (take n₂ output₂') old_words₂ old_bytes₂ words₂' bytes₂' answer₂ →
     Matched words₁ bytes₁ words₂ bytes₂ budget table list table' list' result → Matched words₁' bytes₁' words₂' bytes₂' budget table list table' list' result
 print_then_match = fronts.printed_matches
@@ -331,71 +333,72 @@ move_touches_one = one_touch
 
 -- 'From clear marks it ends with exactly the circular references and the list': what `order_ads` shows of two ads that it does not refuse.
 -- A flag is 1 for a circular reference and 0 for any other node.
-pub circular_and_list_shown : {words₁ bytes₁ words₂ bytes₂ flags list flags' list' : List ℕ} {count len : ℕ} → Ordered words₁ bytes₁ words₂ bytes₂ flags list flags' list' (Found count len) →
-    (marks order : List ℕ) × (flags' ≡ marks ++ drop 2048 flags) × Flags (pair_graph (take ad_words words₁) (take ad_bytes_room bytes₁) (take ad_words words₂) (take ad_bytes_room bytes₂)) (raised marks) × ((node : ℕ) → get_or marks node 0 ≤ 1) ×
-    (IsList (pair_graph (take ad_words words₁) (take ad_bytes_room bytes₁) (take ad_words words₂) (take ad_bytes_room bytes₂)) order) × (len ≡ length order)
+pub circular_and_list_shown : {words₁ bytes₁ words₂ bytes₂ flags list flags' list' : List ℕ} {order : Order} → Ordered words₁ bytes₁ words₂ bytes₂ flags list flags' list' (Ok order) →
+    (marks entries : List ℕ) × (flags' ≡ marks ++ drop 2048 flags) × Flags (pair_graph (take ad_words words₁) (take ad_bytes_room bytes₁) (take ad_words words₂) (take ad_bytes_room bytes₂)) (raised marks) × ((node : ℕ) → get_or marks node 0 ≤ 1) ×
+    (IsList (pair_graph (take ad_words words₁) (take ad_bytes_room bytes₁) (take ad_words words₂) (take ad_bytes_room bytes₂)) entries) × (order.length ≡ length entries)
 circular_and_list_shown call = let x = calls.ordered_found call in (x.0, x.4.order, x.2, x.4.flagged, x.4.bits, (raised x.0, x.4.flagged, x.4.entered), x.4.long)
 
 -- ==== The match, in any memory
 
 -- `match_ads` has one answer and leaves one content, whatever it is lent and with every budget.
-pub match_is_one : (words₁ bytes₁ words₂ bytes₂ : List ℕ) (budget : ℕ) (table list : List ℕ) → (table' list' : List ℕ) × (result : Outcome) × Matched words₁ bytes₁ words₂ bytes₂ budget table list table' list' result ×
-    ((table'' list'' : List ℕ) (other : Outcome) → Matched words₁ bytes₁ words₂ bytes₂ budget table list table'' list'' other → (other ≡ result) × (table'' ≡ table') × (list'' ≡ list'))
+pub match_is_one : (words₁ bytes₁ words₂ bytes₂ : List ℕ) (budget : ℕ) (table list : List ℕ) → (table' list' : List ℕ) × (result : Result Outcome Refusal) × Matched words₁ bytes₁ words₂ bytes₂ budget table list table' list' result ×
+    ((table'' list'' : List ℕ) (other : Result Outcome Refusal) → Matched words₁ bytes₁ words₂ bytes₂ budget table list table'' list'' other → (other ≡ result) × (table'' ≡ table') × (list'' ≡ list'))
 match_is_one words₁ bytes₁ words₂ bytes₂ budget table list =
     let x = answering.matched_exists words₁ bytes₁ words₂ bytes₂ budget table list in
     (x.0, x.1, x.2, x.3, λ table'' list'' other call. let s = matching.matched_one call x.3 in (s.answers, s.tables, s.lists))
 
 -- 'Matching checks 1, then 10 for the first ad, then 10 for the second', place 0, 'all unchanged': it refuses for want of room, or where an
 -- ad is not well formed, and for nothing else.
-pub match_refuses : {words₁ bytes₁ words₂ bytes₂ : List ℕ} {budget : ℕ} {table list table' list' : List ℕ} {result : Outcome} {number place : ℕ} →
-    Matched words₁ bytes₁ words₂ bytes₂ budget table list table' list' result → result ≡ outcome.Refused number place →
+pub match_refuses : {words₁ bytes₁ words₂ bytes₂ : List ℕ} {budget : ℕ} {table list table' list' : List ℕ} {result : Result Outcome Refusal} {number place : ℕ} →
+    Matched words₁ bytes₁ words₂ bytes₂ budget table list table' list' result → RefusedWith result number place →
     (((number ≡ 1) × (small words₁ bytes₁ words₂ bytes₂ table list ≡ true)) ⊎ ((number ≡ 10) × (small words₁ bytes₁ words₂ bytes₂ table list ≡ false) × ¬ (Well words₁ bytes₁ × Well words₂ bytes₂))) ×
     (place ≡ 0) × (table' ≡ table) × (list' ≡ list)
 match_refuses = calls.match_refuses
 
 -- Two finished matches of the same memory answer the same, whatever the budgets and whatever is lent for table and list.
 pub finished_is_one : {words₁ bytes₁ words₂ bytes₂ : List ℕ} {budget budget' : ℕ} {table list table' list' table₂ list₂ table₂' list₂' : List ℕ} {verdict verdict' : Bool} {rank₁ rank₂ steps count rank₁' rank₂' steps' count' : ℕ} →
-    Matched words₁ bytes₁ words₂ bytes₂ budget table list table' list' (outcome.Finished verdict rank₁ rank₂ steps count) →
-    Matched words₁ bytes₁ words₂ bytes₂ budget' table₂ list₂ table₂' list₂' (outcome.Finished verdict' rank₁' rank₂' steps' count') →
+    Matched words₁ bytes₁ words₂ bytes₂ budget table list table' list' (Ok (outcome.Finished verdict rank₁ rank₂ steps count)) →
+    Matched words₁ bytes₁ words₂ bytes₂ budget' table₂ list₂ table₂' list₂' (Ok (outcome.Finished verdict' rank₁' rank₂' steps' count')) →
     outcome.Finished verdict rank₁ rank₂ steps count ≡ outcome.Finished verdict' rank₁' rank₂' steps' count'
 finished_is_one {count = count} {count' = count'} m m' = exchanged.matched_finished m m' (count, refl) (count', refl)
 
 -- With the two ads exchanged a finished match keeps its verdict, the ranks change places, and the steps are as many: in any memory, and
 -- with any two budgets that finish.
 pub exchange : {words₁ bytes₁ words₂ bytes₂ : List ℕ} {budget budget' : ℕ} {table list table' list' table₂ list₂ table₂' list₂' : List ℕ} {verdict verdict' : Bool} {rank₁ rank₂ steps count rank₁' rank₂' steps' count' : ℕ} →
-    Matched words₁ bytes₁ words₂ bytes₂ budget table list table' list' (outcome.Finished verdict rank₁ rank₂ steps count) →
-    Matched words₂ bytes₂ words₁ bytes₁ budget' table₂ list₂ table₂' list₂' (outcome.Finished verdict' rank₁' rank₂' steps' count') →
+    Matched words₁ bytes₁ words₂ bytes₂ budget table list table' list' (Ok (outcome.Finished verdict rank₁ rank₂ steps count)) →
+    Matched words₂ bytes₂ words₁ bytes₁ budget' table₂ list₂ table₂' list₂' (Ok (outcome.Finished verdict' rank₁' rank₂' steps' count')) →
     (verdict' ≡ verdict) × (rank₁' ≡ rank₂) × (rank₂' ≡ rank₁) × (steps' ≡ steps)
 exchange {count = count} {count' = count'} m m' = let x = exchanged.matched_exchange_finished m m' (count, refl) (count', refl) in (x.kept, x.first, x.second, x.as_many)
 
 -- With one budget, two matches of the same memory with the ads exchanged are refused alike, or both finished, or both unfinished after as
 -- many steps.
-pub exchange_in_any_memory : {words₁ bytes₁ words₂ bytes₂ : List ℕ} {budget : ℕ} {table list table' list' table₂ list₂ table₂' list₂' : List ℕ} {result result' : Outcome} → short table list ≡ short table₂ list₂ →
+pub exchange_in_any_memory : {words₁ bytes₁ words₂ bytes₂ : List ℕ} {budget : ℕ} {table list table' list' table₂ list₂ table₂' list₂' : List ℕ} {result result' : Result Outcome Refusal} → short table list ≡ short table₂ list₂ →
     Matched words₁ bytes₁ words₂ bytes₂ budget table list table' list' result → Matched words₂ bytes₂ words₁ bytes₁ budget table₂ list₂ table₂' list₂' result' → Turns result result'
 exchange_in_any_memory = exchanging.matched_exchange
 
 -- ==== The match of two texts
 
 -- two texts that `read` accepted, and a match of what it left, with room for table and list and with any budget
-module _ {text₁ text₂ old_words₁ old_bytes₁ old_words₂ old_bytes₂ words₁ bytes₁ words₂ bytes₂ : List ℕ} {definitions₁ nodes₁ definitions₂ nodes₂ budget : ℕ} {table list table' list' : List ℕ} {result : Outcome}
-    (call₁ : Answered text₁ old_words₁ old_bytes₁ words₁ bytes₁ (reading.Accepted definitions₁ nodes₁)) (call₂ : Answered text₂ old_words₂ old_bytes₂ words₂ bytes₂ (reading.Accepted definitions₂ nodes₂))
+module _ {text₁ text₂ old_words₁ old_bytes₁ old_words₂ old_bytes₂ words₁ bytes₁ words₂ bytes₂ : List ℕ} {counts₁ counts₂ : Counts} {budget : ℕ} {table list table' list' : List ℕ} {result : Result Outcome Refusal}
+    (call₁ : Answered text₁ old_words₁ old_bytes₁ words₁ bytes₁ (Ok counts₁)) (call₂ : Answered text₂ old_words₂ old_bytes₂ words₂ bytes₂ (Ok counts₂))
     (table_room : 4096 ≤ length table) (list_room : 2048 ≤ length list) (match : Matched words₁ bytes₁ words₂ bytes₂ budget table list table' list' result) where
   -- 'two ads are accepted where their match is given neither': it is never refused.
-  pub texts_not_refused : (number place : ℕ) → ¬ (result ≡ outcome.Refused number place)
-  texts_not_refused = acceptance.read_matches call₁ call₂ table_room list_room match
+  pub texts_not_refused : (number place : ℕ) → ¬ (RefusedWith result number place)
+  texts_not_refused number place x = acceptance.read_matches call₁ call₂ table_room list_room match x.told x.answers
 
   -- 'its end is what these moves, exactly as many as it counts, make one after another of its first place, clear marks and an empty list':
   -- the count in the answer is the first at which the moves are over, and is at most sixteen times the nodes (their square is allowed).
-  pub texts_moves : (tree₁ tree₂ : Ad) × (read text₁ ≡ accepted tree₁) × (read text₂ ≡ accepted tree₂) ×
-      Ended (tree_graph tree₁ tree₂) (transitions (tree_graph tree₁ tree₂) (count_of result) (moves.first (tree_graph tree₁ tree₂))) ×
-      ((fewer : ℕ) → fewer < count_of result → ¬ (Ended (tree_graph tree₁ tree₂) (transitions (tree_graph tree₁ tree₂) fewer (moves.first (tree_graph tree₁ tree₂))))) ×
-      (count_of result ≤ 16 * (nodes₁ + nodes₂))
-  texts_moves = let x = calls.texts_counted call₁ call₂ table_room list_room match in (x.0, x.1, x.2, x.3, x.4.ends, x.4.exact, x.5)
+  pub texts_moves : (tree₁ tree₂ : Ad) × (read text₁ ≡ accepted tree₁) × (read text₂ ≡ accepted tree₂) × (outcome : Outcome) × (result ≡ Ok outcome) ×
+      Ended (tree_graph tree₁ tree₂) (transitions (tree_graph tree₁ tree₂) (count_of outcome) (moves.first (tree_graph tree₁ tree₂))) ×
+      ((fewer : ℕ) → fewer < count_of outcome → ¬ (Ended (tree_graph tree₁ tree₂) (transitions (tree_graph tree₁ tree₂) fewer (moves.first (tree_graph tree₁ tree₂))))) ×
+      (count_of outcome ≤ 16 * (counts₁.nodes + counts₂.nodes))
+  texts_moves = let x = calls.texts_counted call₁ call₂ table_room list_room match in (x.0, x.1, x.2, x.3, x.4, x.5, x.6.ends, x.6.exact, x.7)
 
   -- 'After a match the list's room holds the whole list, whatever the budget, then zeros.' It is the list of the trees read; no entry stands
   -- twice, there are no more than the two ads have nodes, and the steps are the smaller of budget and list length.
   pub texts_list : (tree₁ tree₂ : Ad) × (read text₁ ≡ accepted tree₁) × (read text₂ ≡ accepted tree₂) × (order : List ℕ) × IsList (tree_graph tree₁ tree₂) order ×
-      (list' ≡ (map suc order ++ replicate (2048 - length order) 0) ++ drop 2048 list) × Distinct order × (length order ≤ nodes₁ + nodes₂) × (steps_of result ≡ min budget (length order))
+      (list' ≡ (map suc order ++ replicate (2048 - length order) 0) ++ drop 2048 list) × Distinct order × (length order ≤ counts₁.nodes + counts₂.nodes) ×
+      (outcome : Outcome) × (result ≡ Ok outcome) × (steps_of outcome ≡ min budget (length order))
   texts_list = calls.texts_listed call₁ call₂ table_room list_room match
 
   -- The first entries, as many as the budget, are worked out: the slot of each holds the value of its expression on the trees. 'slots not
@@ -407,40 +410,45 @@ module _ {text₁ text₂ old_words₁ old_bytes₁ old_words₂ old_bytes₂ wo
   texts_table = calls.texts_valued call₁ call₂ table_room list_room match
 
   -- 'A budget not below the list's length covers it; the match is then finished': so a budget of 2,048 always finishes.
-  pub texts_finished : 2048 ≤ budget → (verdict : Bool) × (rank₁ rank₂ : ℕ) × (result ≡ outcome.Finished verdict rank₁ rank₂ (steps_of result) (count_of result))
-  texts_finished enough = let x = (texts.texts_list call₁ call₂ table_room list_room match).always enough in (x.verdict, x.first_rank, x.second_rank, x.answers)
+  pub texts_finished : 2048 ≤ budget → (verdict : Bool) × (rank₁ rank₂ steps count : ℕ) × (result ≡ Ok (outcome.Finished verdict rank₁ rank₂ steps count))
+  texts_finished enough =
+      let list = texts.texts_list call₁ call₂ table_room list_room match in
+      let x = list.always enough in
+      (x.verdict, x.first_rank, x.second_rank, steps_of list.outcome, count_of list.outcome, list.answers ∙ ap Ok x.answers)
 
   -- 'Matched: both Requirements are true, nothing else. A rank is the Integer if it is 0 or more, otherwise 0 (also for Real, or no Rank at
   -- all), and stands unmatched too.' Verdict and ranks are those of the trees read; a definition that is missing is Undefined.
-  pub texts_verdict : {verdict : Bool} {rank₁ rank₂ steps count : ℕ} → result ≡ outcome.Finished verdict rank₁ rank₂ steps count →
+  pub texts_verdict : {verdict : Bool} {rank₁ rank₂ steps count : ℕ} → result ≡ Ok (outcome.Finished verdict rank₁ rank₂ steps count) →
       (tree₁ tree₂ : Ad) × (read text₁ ≡ accepted tree₁) × (read text₂ ≡ accepted tree₂) × (required₁ required₂ ranked₁ ranked₂ : Value) ×
       Worths tree₁ tree₂ false requirements required₁ × Worths tree₁ tree₂ true requirements required₂ × Worths tree₁ tree₂ false rank ranked₁ × Worths tree₁ tree₂ true rank ranked₂ ×
       (verdict ≡ (is_true required₁ && is_true required₂)) × (rank₁ ≡ rank_of ranked₁) × (rank₂ ≡ rank_of ranked₂)
   texts_verdict = calls.texts_verdict call₁ call₂ table_room list_room match
 
   -- With the two ads exchanged, and the same budget, both finish with one verdict and the ranks exchanged, or neither does.
-  pub texts_exchange : {table₂ list₂ table₂' list₂' : List ℕ} {result' : Outcome} → 4096 ≤ length table₂ → 2048 ≤ length list₂ →
-      Matched words₂ bytes₂ words₁ bytes₁ budget table₂ list₂ table₂' list₂' result' → Exchanged result result'
+  pub texts_exchange : {table₂ list₂ table₂' list₂' : List ℕ} {result' : Result Outcome Refusal} → 4096 ≤ length table₂ → 2048 ≤ length list₂ →
+      Matched words₂ bytes₂ words₁ bytes₁ budget table₂ list₂ table₂' list₂' result' →
+      (outcome outcome' : Outcome) × (result ≡ Ok outcome) × (result' ≡ Ok outcome') × Exchanged outcome outcome'
   texts_exchange table_room₂ list_room₂ match₂ = exchanged.accepted_exchange call₁ call₂ table_room list_room table_room₂ list_room₂ match match₂
 
 -- Verdict, ranks, steps and the count of moves are functions of the two texts: the budget decides only whether the match is finished, and
 -- the memory decides nothing. '.. answers verdict, both ranks and steps, otherwise the steps done.'
 pub texts_answer : {text₁ text₂ : List ℕ} {tree₁ tree₂ : Ad} → read text₁ ≡ accepted tree₁ → read text₂ ≡ accepted tree₂ → (verdict : Bool) × (rank₁ rank₂ steps count : ℕ) ×
-    ((old_words₁ old_bytes₁ old_words₂ old_bytes₂ words₁ bytes₁ words₂ bytes₂ : List ℕ) (definitions₁ nodes₁ definitions₂ nodes₂ budget : ℕ) (table list table' list' : List ℕ) (result : Outcome) →
-    Answered text₁ old_words₁ old_bytes₁ words₁ bytes₁ (reading.Accepted definitions₁ nodes₁) → Answered text₂ old_words₂ old_bytes₂ words₂ bytes₂ (reading.Accepted definitions₂ nodes₂) →
+    ((old_words₁ old_bytes₁ old_words₂ old_bytes₂ words₁ bytes₁ words₂ bytes₂ : List ℕ) (counts₁ counts₂ : Counts) (budget : ℕ) (table list table' list' : List ℕ) (result : Result Outcome Refusal) →
+    Answered text₁ old_words₁ old_bytes₁ words₁ bytes₁ (Ok counts₁) → Answered text₂ old_words₂ old_bytes₂ words₂ bytes₂ (Ok counts₂) →
     4096 ≤ length table → 2048 ≤ length list → Matched words₁ bytes₁ words₂ bytes₂ budget table list table' list' result →
-    result ≡ cond (ltb budget steps) (outcome.Unfinished budget count) (outcome.Finished verdict rank₁ rank₂ steps count))
+    result ≡ Ok (cond (ltb budget steps) (outcome.Unfinished budget count) (outcome.Finished verdict rank₁ rank₂ steps count)))
 texts_answer reads₁ reads₂ =
     let x = texts.texts_answer reads₁ reads₂ in
-    (x.verdict, x.first_rank, x.second_rank, x.steps, x.count, λ _ _ _ _ _ _ _ _ _ _ _ _ _ _ _ _ _ _ call₁ call₂ table_room list_room match. x.only (texts.texts_match call₁ call₂ table_room list_room match))
+    (x.verdict, x.first_rank, x.second_rank, x.steps, x.count, λ _ _ _ _ _ _ _ _ _ _ _ _ _ _ _ _ call₁ call₂ table_room list_room match.
+    let m = texts.texts_match call₁ call₂ table_room list_room match in m.1 ∙ ap Ok (x.only m.2))
 
 -- Undefined is no match: a bench that says `!(other.PulseWidth > 50)` does not take a job that came without PulseWidth.
-pub missing_pulse_width : {old_words₁ old_bytes₁ old_words₂ old_bytes₂ words₁ bytes₁ words₂ bytes₂ : List ℕ} {answer₁ answer₂ : Answer} {budget : ℕ} {table list table' list' : List ℕ} {result : Outcome} →
+pub missing_pulse_width : {old_words₁ old_bytes₁ old_words₂ old_bytes₂ words₁ bytes₁ words₂ bytes₂ : List ℕ} {answer₁ answer₂ : Result Counts Refusal} {budget : ℕ} {table list table' list' : List ℕ} {result : Result Outcome Refusal} →
     Roomy old_words₁ old_bytes₁ → Roomy old_words₂ old_bytes₂ → Answered (ascii "[Requirements = !(other.PulseWidth > 50)]") old_words₁ old_bytes₁ words₁ bytes₁ answer₁ →
     Answered (ascii "[Requirements = true]") old_words₂ old_bytes₂ words₂ bytes₂ answer₂ → 4096 ≤ length table → 2048 ≤ length list →
-    Matched words₁ bytes₁ words₂ bytes₂ budget table list table' list' result → 5 ≤ budget → (count : ℕ) × (result ≡ outcome.Finished false 0 0 5 count)
+    Matched words₁ bytes₁ words₂ bytes₂ budget table list table' list' result → 5 ≤ budget → (count : ℕ) × (result ≡ Ok (outcome.Finished false 0 0 5 count))
 unfolding fault
-missing_pulse_width room₁ room₂ call₁ call₂ t l m enough = (_, (fault_shown.shows room₁ room₂ call₁ call₂ t l m).comes.finishes enough)
+missing_pulse_width room₁ room₂ call₁ call₂ t l m enough = let x = fault_shown.shows room₁ room₂ call₁ call₂ t l m in (_, x.1 ∙ ap Ok (x.2.comes.finishes enough))
 
 -- ==== Examples
 

@@ -1,19 +1,18 @@
 -- WHAT READING LEAVES AND A MATCH FINDS, from two texts: the match is that of the trees read, and document 01's worked examples hold of
 -- what `read` and `match_ads` leave. Assumes nothing.
-use Rattle.std.specs.Prelude.{ℕ, suc, ◌+◌, ◌-◌, ◌≤◌, ◌≡◌, refl, List, [], ◌∷◌, ◌++◌, map, length, take, drop, replicate}
-use Rattle.std.proofs.Common.{ap, ap₂, ◌∙◌, subst}
+use Rattle.std.specs.Prelude.{ℕ, suc, ◌+◌, ◌-◌, ◌≤◌, ◌≡◌, refl, Result, Ok, Err, List, [], ◌∷◌, ◌++◌, map, length, take, drop, replicate}
+use Rattle.std.proofs.Common.{arith, sym, ap, ap₂, ◌∙◌, subst}
 use Rattle.links.specs.Pair.{pair_slots}
 use Rattle.syntax.specs.Tree.{Ad, nodes}
 use Rattle.syntax.specs.Reader as R
 use Rattle.ad.specs.Layout.{ad_words, stored_words, stored_bytes}
 use Rattle.ad.specs.Stored.{node_count}
 use Rattle.printer.specs.Prints.{Roomy}
-use Rattle.ad_reader.specs.declared.Answer.{Answer}
-use Rattle.ad_reader.specs.declared.Answer.TheVariants.{Accepted}
+use Rattle.ad.specs.declared.Counts.{Counts}
+use Rattle.syntax.specs.declared.Refusal.{Refusal}
 use Rattle.reader.specs.Content.{Answered}
 use Rattle.matching.specs.Matching.{Match, Matched, refused, matches, table_words}
 use Rattle.matching.specs.declared.Outcome.{Outcome}
-use Rattle.matching.specs.declared.Outcome.TheVariants.{Refused}
 use Rattle.acceptance.proofs.Acceptance.{read_matches}
 use Rattle.worked.specs.Table.{Row, Holds, AllHold, table, fault}
 use Rattle.worked.proofs.Examples.{worked, fault_unmatched}
@@ -32,26 +31,34 @@ match_cast {v} {b} {w} {c} {v'} {b'} {w'} {c'} {budget} {table} {list} {r} p q i
     (subst (λ (z : List ℕ). Match v b z c' budget table list r) i
     (subst (λ (z : List ℕ). Match v b w z budget table list r) j m)))
 
+-- a match that is not refused answers an outcome
+pub outcome_of : (r : Result Outcome Refusal) → ((e : Refusal) → r ≡ Err e → ⊥) → (o : Outcome) × (r ≡ Ok o)
+outcome_of (Ok o) n = (o, refl)
+outcome_of (Err e) n = absurd (n e refl)
+
 -- THE MATCH IS THAT OF THE TREES that were read
-pub trees_match : {s t v₀ b₀ w₀ c₀ v b w c : List ℕ} {x y : Answer} {a e : Ad} {budget : ℕ} {table list table' list' : List ℕ} {r : Outcome} →
-    ReadAs s v₀ b₀ v b x a → ReadAs t w₀ c₀ w c y e → Matched v b w c budget table list table' list' r → ((k p : ℕ) → r ≡ Refused k p → ⊥) → TreesMatch a e budget table list table' list' r
-trees_match x y (refused o q t l) u = absurd (u _ 0 q)
-trees_match x y (matches o values entries m t l) u = record {
-  values = values;
-  entries = entries;
-  is_match = match_cast (front_words x) (front_bytes x) (front_words y) (front_bytes y) m;
-  table_is = t;
-  list_is = l;
-}
+pub trees_match : {s t v₀ b₀ w₀ c₀ v b w c : List ℕ} {x y : Result Counts Refusal} {a e : Ad} {budget : ℕ} {table list table' list' : List ℕ} {r : Result Outcome Refusal} →
+    ReadAs s v₀ b₀ v b x a → ReadAs t w₀ c₀ w c y e → Matched v b w c budget table list table' list' r → (o : Outcome) → r ≡ Ok o → TreesMatch a e budget table list table' list' o
+trees_match x y (refused f q t l) o u = let g = sym q ∙ u in let z : ◌≡◌ {A = ℕ} 0 1 = cc in absurd (omega arith)
+trees_match {a = a} {e} {budget} {table} {list} {table'} {list'} x y (matches {o'} f q values entries m t l) o u =
+    let same : o' ≡ o = cc in
+    subst (λ (z : Outcome). TreesMatch a e budget table list table' list' z) same (record {
+      values = values;
+      entries = entries;
+      is_match = match_cast (front_words x) (front_bytes x) (front_words y) (front_bytes y) m;
+      table_is = t;
+      list_is = l;
+    })
 
 -- TWO TEXTS THAT ARE ACCEPTED: the match of what reading left is that of the trees that they read as
-pub texts_match : {s t v₀ b₀ w₀ c₀ v b w c : List ℕ} {d n d' n' budget : ℕ} {table list table' list' : List ℕ} {r : Outcome} →
-    Answered s v₀ b₀ v b (Accepted d n) → Answered t w₀ c₀ w c (Accepted d' n') → table_words ≤ length table → pair_slots ≤ length list →
-    Matched v b w c budget table list table' list' r → TextsMatch s t budget table list table' list' r
-texts_match x y h l m =
+pub texts_match : {s t v₀ b₀ w₀ c₀ v b w c : List ℕ} {counts counts' : Counts} {budget : ℕ} {table list table' list' : List ℕ} {r : Result Outcome Refusal} →
+    Answered s v₀ b₀ v b (Ok counts) → Answered t w₀ c₀ w c (Ok counts') → table_words ≤ length table → pair_slots ≤ length list →
+    Matched v b w c budget table list table' list' r → (o : Outcome) × (r ≡ Ok o) × TextsMatch s t budget table list table' list' o
+texts_match {r = r} x y h l m =
     let p = accepted_tree x in
     let q = accepted_tree y in
-    record { first = p.0; second = q.0; first_read = p.1.reads; second_read = q.1.reads; trees = trees_match p.1 q.1 m (read_matches x y h l m) }
+    let o = outcome_of r (read_matches x y h l m) in
+    (o.0, o.1, record { first = p.0; second = q.0; first_read = p.1.reads; second_read = q.1.reads; trees = trees_match p.1 q.1 m o.0 o.1 })
 
 -- the trees are those that the texts read as
 pub of_trees : {s t : List ℕ} {a e : Ad} {budget : ℕ} {table list table' list' : List ℕ} {r : Outcome} → R.read s ≡ R.accepted a → R.read t ≡ R.accepted e →
@@ -61,15 +68,22 @@ of_trees {a = a} {e} {budget} {table} {list} {table'} {list'} {r} p q m =
     let j : m.second ≡ e = cc m.second_read in
     subst (λ (x : Ad). TreesMatch x e budget table list table' list' r) i (subst (λ (x : Ad). TreesMatch m.first x budget table list table' list' r) j m.trees)
 
+-- the counts of an accepted reading
+pub counted_nodes : {s w b w' b' : List ℕ} {counts : Counts} {a : Ad} → ReadAs s w b w' b' (Ok counts) a → nodes a ≡ counts.nodes
+counted_nodes {counts = counts} {a} x =
+    let e : ◌≡◌ {A = Result Counts Refusal} (Ok counts) (Ok (record { definitions = length a; nodes = nodes a })) = x.answers in
+    let f : counts ≡ record { definitions = length a; nodes = nodes a } = cc in
+    sym (ap (λ (k : Counts). k.nodes) f)
+
 -- and it takes no more steps than the texts have nodes, so that a budget of as many, or of 2,048, is always enough
-pub texts_list : {s t v₀ b₀ w₀ c₀ v b w c : List ℕ} {d n d' n' budget : ℕ} {table list table' list' : List ℕ} {r : Outcome} →
-    Answered s v₀ b₀ v b (Accepted d n) → Answered t w₀ c₀ w c (Accepted d' n') → table_words ≤ length table → pair_slots ≤ length list →
-    Matched v b w c budget table list table' list' r → Within (n + n') budget r
-texts_list {v = v} {w = w} {n = n} {n' = n'} {budget = budget} {r = r} x y h l m =
+pub texts_list : {s t v₀ b₀ w₀ c₀ v b w c : List ℕ} {counts counts' : Counts} {budget : ℕ} {table list table' list' : List ℕ} {r : Result Outcome Refusal} →
+    Answered s v₀ b₀ v b (Ok counts) → Answered t w₀ c₀ w c (Ok counts') → table_words ≤ length table → pair_slots ≤ length list →
+    Matched v b w c budget table list table' list' r → Within (counts.nodes + counts'.nodes) budget r
+texts_list {v = v} {w = w} {counts = counts} {counts'} {budget = budget} {r = r} x y h l m =
     let p = accepted_tree x in
     let q = accepted_tree y in
-    let i : node_count (take ad_words v) ≡ n = front_nodes p.1 ∙ (let z : nodes p.0 ≡ n = cc p.1.answers in z) in
-    let j : node_count (take ad_words w) ≡ n' = front_nodes q.1 ∙ (let z : nodes q.0 ≡ n' = cc q.1.answers in z) in
+    let i : node_count (take ad_words v) ≡ counts.nodes = front_nodes p.1 ∙ counted_nodes p.1 in
+    let j : node_count (take ad_words w) ≡ counts'.nodes = front_nodes q.1 ∙ counted_nodes q.1 in
     subst (λ (k : ℕ). Within k budget r) (ap₂ ◌+◌ i j) (matched_list m (read_matches x y h l m))
 
 -- VERDICT, RANKS, STEPS AND MOVES ARE FUNCTIONS OF THE TWO TEXTS
@@ -91,23 +105,24 @@ texts_answer {s} {t} {a} {e} p q =
     }
 
 module _ (row : Row) (h : Holds row) where
-  row_shown : {v₀ b₀ w₀ c₀ v b w c : List ℕ} {x y : Answer} {budget : ℕ} {table list table' list' : List ℕ} {r : Outcome} → Roomy v₀ b₀ → Roomy w₀ c₀ →
+  row_shown : {v₀ b₀ w₀ c₀ v b w c : List ℕ} {x y : Result Counts Refusal} {budget : ℕ} {table list table' list' : List ℕ} {r : Result Outcome Refusal} → Roomy v₀ b₀ → Roomy w₀ c₀ →
       Answered row.first v₀ b₀ v b x → Answered row.second w₀ c₀ w c y → table_words ≤ length table → pair_slots ≤ length list →
-      Matched v b w c budget table list table' list' r → Shown row budget table list table' list' r
-  row_shown {v₀} {b₀} {w₀} {c₀} {v} {b} {w} {c} {list = list} p q x y i j m =
+      Matched v b w c budget table list table' list' r → (o : Outcome) × (r ≡ Ok o) × Shown row budget table list table' list' o
+  row_shown {v₀} {b₀} {w₀} {c₀} {v} {b} {w} {c} {list = list} {r = r} p q x y i j m =
       let a = read_answered h.first_ad p h.first_read x in
       let e = read_answered h.second_ad q h.second_read y in
-      let x' = subst (λ (z : Answer). Answered row.first v₀ b₀ v b z) a.answers x in
-      let y' = subst (λ (z : Answer). Answered row.second w₀ c₀ w c z) e.answers y in
-      let t = trees_match a e m (read_matches x' y' i j m) in
+      let x' = subst (λ (z : Result Counts Refusal). Answered row.first v₀ b₀ v b z) a.answers x in
+      let y' = subst (λ (z : Result Counts Refusal). Answered row.second w₀ c₀ w c z) e.answers y in
+      let o = outcome_of r (read_matches x' y' i j m) in
+      let t = trees_match a e m o.0 o.1 in
       let k = h.comes t.is_match in
-      record {
+      (o.0, o.1, record {
         first = h.first_ad;
         second = h.second_ad;
         trees = t;
         comes = k;
         listed = t.list_is ∙ ap (λ (l : List ℕ). l ++ drop pair_slots list) (t.is_match.listed ∙ ap (λ (l : List ℕ). map suc l ++ replicate (2048 - length l) 0) k.lists);
-      }
+      })
 
   row_shows : Shows row
   row_shows = record { shows = row_shown }

@@ -1,17 +1,19 @@
 -- THE TWO ADS EXCHANGED, in terms of what callers hold: two matches in any memory are refused alike, or the verdict is kept and the ranks
 -- change places; also with two budgets, where both finish; and of two texts. Assumes nothing.
-use Rattle.std.specs.Prelude.{ℕ, ◌≡◌, Bool, ◌||◌, List, length, ltb}
+use Rattle.std.specs.Prelude.{ℕ, ◌≡◌, Bool, ◌||◌, Result, Ok, List, length, ltb}
 use Rattle.links.specs.Pair.{pair_slots}
 use Rattle.matching.specs.Matching.{table_words}
 use Rattle.matching.proofs.Laws.Exchange.{Exchanged}
 use Rattle.matching.specs.declared.Outcome.{Outcome}
-use Rattle.matching.specs.declared.Outcome.TheVariants.{Refused, Finished}
+use Rattle.matching.specs.declared.Outcome.TheVariants.{Finished}
+use Rattle.syntax.specs.declared.Refusal.{Refusal}
+use Rattle.theorems.specs.Refusing.{RefusedWith}
 
 -- the answers of a match and of that with the two ads exchanged: refused alike, or `Exchanged`, that is finished with the verdict kept
 -- and the ranks exchanged, or not finished, with the same steps
-pub data Turns : Outcome → Outcome → Type 0 where
-  refused : {o o' : Outcome} {k p : ℕ} → o ≡ Refused k p → o' ≡ Refused k p → Turns o o'
-  answered : {o o' : Outcome} → Exchanged o o' → Turns o o'
+pub data Turns : Result Outcome Refusal → Result Outcome Refusal → Type 0 where
+  refused : {r r' : Result Outcome Refusal} {k p : ℕ} → RefusedWith r k p → RefusedWith r' k p → Turns r r'
+  answered : {r r' : Result Outcome Refusal} {o o' : Outcome} → r ≡ Ok o → r' ≡ Ok o' → Exchanged o o' → Turns r r'
 
 -- the answer is finished, with this verdict, these ranks and steps: 'the match is then finished and answers verdict, both ranks and steps'
 abbrev pub FinishedAs : Bool → ℕ → ℕ → ℕ → Outcome → Type 0

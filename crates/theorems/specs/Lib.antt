@@ -3,3 +3,4 @@ pub mod Existing
 pub mod Texts
 pub mod Exchanging
 pub mod Fronts
+pub mod Refusing

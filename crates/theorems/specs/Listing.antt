@@ -1,19 +1,18 @@
 -- THE LIST OF A MATCH: no entry stands twice, and there are no more entries than the two ads have nodes. So no match takes more steps
 -- than that, and a budget of 2,048 is always enough. Assumes nothing.
-use Rattle.std.specs.Prelude.{ℕ, ◌≤◌, min, ◌≡◌, Bool, List, length}
+use Rattle.std.specs.Prelude.{ℕ, ◌≤◌, min, ◌≡◌, Bool, Result, Ok, List, length}
 use Rattle.graph.specs.Members.{Distinct}
 use Rattle.matching.specs.declared.Outcome.{Outcome}
-use Rattle.matching.specs.declared.Outcome.TheVariants.{Refused, Finished, Unfinished}
+use Rattle.matching.specs.declared.Outcome.TheVariants.{Finished, Unfinished}
+use Rattle.syntax.specs.declared.Refusal.{Refusal}
 
--- the steps of an answer: 'its count being the steps'; a refused match makes none
+-- the steps of an answer: 'its count being the steps'
 abbrev pub steps_of : Outcome → ℕ
-steps_of (Refused k p) = 0
 steps_of (Finished matched i j steps count) = steps
 steps_of (Unfinished steps count) = steps
 
--- the moves of an answer: 'its result carrying a count'; a refused match makes none
+-- the moves of an answer: 'its result carrying a count'
 abbrev pub count_of : Outcome → ℕ
-count_of (Refused k p) = 0
 count_of (Finished matched i j steps count) = count
 count_of (Unfinished steps count) = count
 
@@ -42,10 +41,12 @@ pub record Listed (n budget : ℕ) (order : List ℕ) (count : ℕ) (r : Outcome
   pub always : 2048 ≤ budget → Done (length order) count r
 
 -- an answer that is no refusal, of two ads that have n nodes together
-pub record Within (n budget : ℕ) (r : Outcome) : Type 0 where
+pub record Within (n budget : ℕ) (r : Result Outcome Refusal) : Type 0 where
+  pub outcome : Outcome
+  pub answers : r ≡ Ok outcome
   -- 'its count being the steps'
-  pub few_steps : steps_of r ≤ n
-  pub in_budget : steps_of r ≤ budget
+  pub few_steps : steps_of outcome ≤ n
+  pub in_budget : steps_of outcome ≤ budget
   -- 'A budget not below the list's length covers it; the match is then finished'
-  pub finishes : n ≤ budget → Done (steps_of r) (count_of r) r
-  pub always : 2048 ≤ budget → Done (steps_of r) (count_of r) r
+  pub finishes : n ≤ budget → Done (steps_of outcome) (count_of outcome) outcome
+  pub always : 2048 ≤ budget → Done (steps_of outcome) (count_of outcome) outcome
