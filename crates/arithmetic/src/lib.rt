@@ -23,18 +23,9 @@ fn of_integers(op: Arithmetic, x: u32, y: u32) -> Value
         Arithmetic::Sum => Value::Integer(integers::sum(x, y)),
         Arithmetic::Difference => Value::Integer(integers::difference(x, y)),
         Arithmetic::Product => Value::Integer(integers::product(x, y)),
-        Arithmetic::Quotient => {
-            if y == 0 {
-                return Value::Error;
-            }
-            Value::Integer(integers::quotient(x, y))
-        }
-        Arithmetic::Remainder => {
-            if y == 0 {
-                return Value::Error;
-            }
-            Value::Integer(integers::remainder(x, y))
-        }
+        Arithmetic::Quotient | Arithmetic::Remainder if y == 0 => Value::Error,
+        Arithmetic::Quotient => Value::Integer(integers::quotient(x, y)),
+        Arithmetic::Remainder => Value::Integer(integers::remainder(x, y)),
     }
 }
 
@@ -53,13 +44,11 @@ fn of_reals(op: Arithmetic, x: f64, y: f64) -> f64
 pub fn compute(op: Arithmetic, a: Value, b: Value) -> Value
     ensures { result ≡ arithmetic_value op a b }
 {
-    let pair = operands::pair_of(operands::number_only(a), operands::number_only(b));
-    match pair {
-        Operands::Refused => Value::Error,
+    match operands::pair_of(operands::number_only(a), operands::number_only(b)) {
         Operands::Missing => Value::Undefined,
         Operands::Integers(x, y) => of_integers(op, x, y),
         Operands::Reals(x, y) => Value::Real(of_reals(op, x, y)),
-        Operands::Strings(_, _, _, _, _, _) => Value::Error,
+        Operands::Refused | Operands::Strings(..) => Value::Error,
     }
 }
 
@@ -67,12 +56,10 @@ pub fn minus(v: Value) -> Value
     ensures { result ≡ minus_value v }
 {
     match v {
-        Value::Undefined => Value::Undefined,
-        Value::Error => Value::Error,
-        Value::Boolean(_) => Value::Error,
+        Value::Undefined => v,
         Value::Integer(x) => Value::Integer(integers::negation(x)),
         Value::Real(x) => Value::Real(-x),
-        Value::String(_, _, _) => Value::Error,
+        _ => Value::Error,
     }
 }
 
@@ -80,11 +67,7 @@ pub fn plus(v: Value) -> Value
     ensures { result ≡ plus_value v }
 {
     match v {
-        Value::Undefined => Value::Undefined,
-        Value::Error => Value::Error,
-        Value::Boolean(_) => Value::Error,
-        Value::Integer(x) => Value::Integer(x),
-        Value::Real(x) => Value::Real(x),
-        Value::String(_, _, _) => Value::Error,
+        Value::Undefined | Value::Integer(_) | Value::Real(_) => v,
+        _ => Value::Error,
     }
 }

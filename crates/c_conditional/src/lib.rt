@@ -15,16 +15,10 @@ use values::Value;
 fn conditional_slot(p: Slot, a: Slot, b: Slot) -> Slot
     ensures { result ≡ conditional_slot p a b }
 {
-    let Slot::Held(x) = p else {
-        return Slot::Blank;
-    };
-    let Slot::Held(y) = a else {
-        return Slot::Blank;
-    };
-    let Slot::Held(z) = b else {
-        return Slot::Blank;
-    };
-    Slot::Held(logic::conditional(x, y, z))
+    match (p, a, b) {
+        (Slot::Held(x), Slot::Held(y), Slot::Held(z)) => Slot::Held(logic::conditional(x, y, z)),
+        _ => Slot::Blank,
+    }
 }
 
 // `? :` of slots 0, 1 and 2 of `operands`.

@@ -7,66 +7,48 @@ ghost use Rattle.std.specs.Prelude.{◌≡◌};
 ghost use Rattle.slots.specs.Packed.{slot_at, Stored};
 ghost use Rattle.c_operators.specs.Operators.{binary_named, unary_named, binary_slot, unary_slot};
 
+use ad::Kind;
 use slots::Slot;
 use syntax::{Binary, Unary};
 
 // The operator of two operands that a number names.
-#[derive(Clone, Copy)]
-pub enum Two {
-    Nothing,
-    Operator(Binary),
+fn binary_named(kind: u64) -> Option<Binary>
+    ensures { result ≡ binary_named kind }
+{
+    match Kind::try_from(kind).ok()? {
+        Kind::Binary(op) => Some(op),
+        _ => None,
+    }
 }
 
 // The operator of one operand that a number names.
-#[derive(Clone, Copy)]
-pub enum One {
-    Nothing,
-    Operator(Unary),
-}
-
-fn binary_named(kind: u64) -> Two
-    ensures { result ≡ binary_named kind }
-{
-    if ad::arity(kind) == 2 {
-        return Two::Operator(ad::binary_of(kind));
-    }
-    Two::Nothing
-}
-
-fn unary_named(kind: u64) -> One
+fn unary_named(kind: u64) -> Option<Unary>
     ensures { result ≡ unary_named kind }
 {
-    if ad::arity(kind) == 1 {
-        return One::Operator(ad::unary_of(kind));
+    match Kind::try_from(kind).ok()? {
+        Kind::Unary(op) => Some(op),
+        _ => None,
     }
-    One::Nothing
 }
 
-fn binary_slot(first: &[u8], second: &[u8], op: Two, a: Slot, b: Slot) -> Slot
+fn binary_slot(first: &[u8], second: &[u8], op: Option<Binary>, a: Slot, b: Slot) -> Slot
     ensures { result ≡ binary_slot first.now second.now op a b }
 {
-    let Two::Operator(o) = op else {
-        return Slot::Blank;
-    };
-    let Slot::Held(x) = a else {
-        return Slot::Blank;
-    };
-    let Slot::Held(y) = b else {
-        return Slot::Blank;
-    };
-    Slot::Held(operators::binary(first, second, o, x, y))
+    match (op, a, b) {
+        (Some(op), Slot::Held(x), Slot::Held(y)) => Slot::Held(operators::binary(
+            first, second, op, x, y,
+        )),
+        _ => Slot::Blank,
+    }
 }
 
-fn unary_slot(op: One, a: Slot) -> Slot
+fn unary_slot(op: Option<Unary>, a: Slot) -> Slot
     ensures { result ≡ unary_slot op a }
 {
-    let One::Operator(o) = op else {
-        return Slot::Blank;
-    };
-    let Slot::Held(x) = a else {
-        return Slot::Blank;
-    };
-    Slot::Held(operators::unary(o, x))
+    match (op, a) {
+        (Some(op), Slot::Held(x)) => Slot::Held(operators::unary(op, x)),
+        _ => Slot::Blank,
+    }
 }
 
 // An operator of two operands, which are slots 0 and 1 of `operands`. `first` and `second` are the two ads' bytes.

@@ -1,7 +1,7 @@
 // What the C functions of values do: each calls the function of its name and leaves its answer in numbers (docs/LAYOUT.md).
 #![tactic(auto)]
 
-ghost use Rattle.std.specs.Prelude.{◌≡◌, cond, not, eqb, length};
+ghost use Rattle.std.specs.Prelude.{◌≡◌, cond, not, eqb};
 ghost use Rattle.results.specs.Results.{shown_at};
 ghost use Rattle.c_results.specs.Showing.{held_numbers, slot_numbers, StringPlaced};
 
@@ -12,10 +12,7 @@ use values::Value;
 pub fn flag(b: bool) -> u64
     ensures { result ≡ cond b 1 0 }
 {
-    if b {
-        return 1;
-    }
-    0
+    u64::from(b)
 }
 
 // What a value is, as four numbers: its kind, and what it carries.
@@ -26,9 +23,14 @@ fn held_numbers(v: Value) -> [u64; 4]
         Value::Undefined => [1, 0, 0, 0],
         Value::Error => [2, 0, 0, 0],
         Value::Boolean(b) => [3, flag(b), 0, 0],
-        Value::Integer(x) => [4, x as u64, 0, 0],
+        Value::Integer(x) => [4, u64::from(x), 0, 0],
         Value::Real(x) => [5, slots::bits_of(x), 0, 0],
-        Value::String(side, offset, length) => [6, flag(side), offset as u64, length as u64],
+        Value::String(side, offset, length) => [
+            6,
+            flag(side),
+            u64::from(offset),
+            u64::from(length),
+        ],
     }
 }
 
@@ -49,16 +51,6 @@ pub fn value(table: &[u64], second: u64, node: usize, answer: &mut [u64; 4])
     *answer = slot_numbers(results::value_at(table, second != 0, node));
 }
 
-// The length of the memory that a String's side is in.
-fn side_length(first: &[u8], second: &[u8], side: bool) -> usize
-    ensures { result ≡ length (cond side second.now first.now) }
-{
-    if side {
-        return second.len();
-    }
-    first.len()
-}
-
 // Where the bytes of a String value begin in its ad's bytes, and how many there are.
 pub fn string<'a>(
     first: &'a [u8],
@@ -70,8 +62,8 @@ pub fn string<'a>(
 )
     ensures { StringPlaced first.now second.now (not (eqb side 0)) offset length answer.new }
 {
-    let n = side_length(first, second, side != 0);
-    let start = (offset as usize).min(n);
+    let bytes = if side != 0 { second } else { first };
+    let start = usize::from(offset).min(bytes.len());
     let part = results::string_bytes(first, second, side != 0, offset, length);
     *answer = [start as u64, part.len() as u64];
 }

@@ -4,7 +4,7 @@ use Rattle.std.specs.Float.Ieee as Ieee
 use Rattle.integers.specs.Integers.{width, less_than}
 use Rattle.text.specs.Strings.{string_order}
 use Rattle.std.specs.declared.cmp.Ordering.{Ordering}
-use Rattle.std.specs.declared.cmp.Ordering.TheVariants as O
+use Rattle.std.specs.declared.cmp.Ordering.TheVariants as order
 use Rattle.values.specs.declared.Value.{Value}
 use Rattle.values.specs.declared.Value.TheVariants.{Boolean}
 use Rattle.values.specs.Values.{kinds, bytes_at}
@@ -30,11 +30,11 @@ reals_compare AtMost x y = Ieee.le x y
 reals_compare Above x y = Ieee.lt y x
 reals_compare AtLeast x y = Ieee.le y x
 
--- what holds where the first string is less, the same or greater
+-- what holds where the first string is less, equal or greater
 abbrev pub by_order : Bool → Bool → Bool → Ordering → Bool
-by_order l s g O.Less = l
-by_order l s g O.Equal = s
-by_order l s g O.Greater = g
+by_order l e g order.Less = l
+by_order l e g order.Equal = e
+by_order l e g order.Greater = g
 
 -- 'Strings compare by bytes after ASCII lower case; a proper beginning is smaller.'
 abbrev pub order_holds : Comparison → Ordering → Bool

@@ -1,10 +1,8 @@
 // The six comparisons.
 #![tactic(auto)]
 
-ghost use Rattle.std.specs.Prelude.{◌≡◌, true, false, take, drop};
-ghost use Rattle.text.specs.Strings.{string_order};
-ghost use Rattle.values.specs.Values.{bytes_at};
-ghost use Rattle.comparison.specs.Comparison.{integers_compare, reals_compare, by_order, order_holds, comparison_value};
+ghost use Rattle.std.specs.Prelude.{◌≡◌};
+ghost use Rattle.comparison.specs.Comparison.{integers_compare, reals_compare, order_holds, comparison_value};
 
 use operands::Operands;
 use std::cmp::Ordering;
@@ -46,77 +44,31 @@ fn compare_reals(op: Comparison, x: f64, y: f64) -> bool
     }
 }
 
-fn by_order(less: bool, same: bool, greater: bool, order: Ordering) -> bool
-    ensures { result ≡ by_order less same greater order }
-{
-    match order {
-        Ordering::Less => less,
-        Ordering::Equal => same,
-        Ordering::Greater => greater,
-    }
-}
-
 fn order_holds(op: Comparison, order: Ordering) -> bool
     ensures { result ≡ order_holds op order }
 {
     match op {
-        Comparison::Equal => by_order(false, true, false, order),
-        Comparison::NotEqual => by_order(true, false, true, order),
-        Comparison::Below => by_order(true, false, false, order),
-        Comparison::AtMost => by_order(true, true, false, order),
-        Comparison::Above => by_order(false, false, true, order),
-        Comparison::AtLeast => by_order(false, true, true, order),
+        Comparison::Equal => order.is_eq(),
+        Comparison::NotEqual => order.is_ne(),
+        Comparison::Below => order.is_lt(),
+        Comparison::AtMost => order.is_le(),
+        Comparison::Above => order.is_gt(),
+        Comparison::AtLeast => order.is_ge(),
     }
-}
-
-// The order of `s` and what stands at a place of a memory.
-fn order_at(s: &[u8], memory: &[u8], offset: u16, length: u16) -> Ordering
-    ensures { result ≡ string_order s.now (take length (drop offset memory.now)) }
-{
-    text::string_order(s, parts::cut(memory, offset as usize, length as usize))
-}
-
-fn order_with(first: &[u8], second: &[u8], s: &[u8], side: bool, offset: u16, length: u16) -> Ordering
-    ensures { result ≡ string_order s.now (bytes_at first.now second.now side offset length) }
-{
-    if side {
-        return order_at(s, second, offset, length);
-    }
-    order_at(s, first, offset, length)
-}
-
-fn strings_order(
-    first: &[u8],
-    second: &[u8],
-    side: bool,
-    offset: u16,
-    length: u16,
-    s: bool,
-    o: u16,
-    n: u16,
-) -> Ordering
-    ensures { result ≡ string_order (bytes_at first.now second.now side offset length) (bytes_at first.now second.now s o n) }
-{
-    if side {
-        let bytes = parts::cut(second, offset as usize, length as usize);
-        return order_with(first, second, bytes, s, o, n);
-    }
-    let bytes = parts::cut(first, offset as usize, length as usize);
-    order_with(first, second, bytes, s, o, n)
 }
 
 pub fn compare(first: &[u8], second: &[u8], op: Comparison, a: Value, b: Value) -> Value
     ensures { result ≡ comparison_value first.now second.now op a b }
 {
-    let pair = operands::pair_of(a, b);
-    match pair {
+    match operands::pair_of(a, b) {
         Operands::Refused => Value::Error,
         Operands::Missing => Value::Undefined,
         Operands::Integers(x, y) => Value::Boolean(compare_integers(op, x, y)),
         Operands::Reals(x, y) => Value::Boolean(compare_reals(op, x, y)),
         Operands::Strings(side, offset, length, s, o, n) => {
-            let order = strings_order(first, second, side, offset, length, s, o, n);
-            Value::Boolean(order_holds(op, order))
+            let bytes = values::part(first, second, side, offset, length);
+            let others = values::part(first, second, s, o, n);
+            Value::Boolean(order_holds(op, text::string_order(bytes, others)))
         }
     }
 }

@@ -1,8 +1,8 @@
 // The logical operators, by document 01's tables.
 #![tactic(auto)]
 
-ghost use Rattle.std.specs.Prelude.{◌≡◌, true, false};
-ghost use Rattle.logic.specs.Logic.{truth_of, row, and_value, or_value, not_value, conditional_value};
+ghost use Rattle.std.specs.Prelude.{◌≡◌};
+ghost use Rattle.logic.specs.Logic.{truth_of, and_value, or_value, not_value, conditional_value};
 
 use values::Value;
 
@@ -20,72 +20,54 @@ pub fn truth_of(v: Value) -> Truth
 {
     match v {
         Value::Undefined => Truth::U,
-        Value::Error => Truth::O,
-        Value::Boolean(b) => { if b { Truth::T } else { Truth::F } }
-        Value::Integer(_) => Truth::O,
-        Value::Real(_) => Truth::O,
-        Value::String(_, _, _) => Truth::O,
-    }
-}
-
-// One row of a table: what stands under F, U, T and O.
-fn in_row(f: Value, u: Value, t: Value, o: Value, column: Truth) -> Value
-    ensures { result ≡ row f u t o column }
-{
-    match column {
-        Truth::F => f,
-        Truth::U => u,
-        Truth::T => t,
-        Truth::O => o,
+        Value::Boolean(false) => Truth::F,
+        Value::Boolean(true) => Truth::T,
+        _ => Truth::O,
     }
 }
 
 pub fn and(a: Value, b: Value) -> Value
     ensures { result ≡ and_value a b }
 {
-    let no = Value::Boolean(false);
-    let yes = Value::Boolean(true);
-    let u = Value::Undefined;
-    let e = Value::Error;
-    let q = truth_of(b);
-    let p = truth_of(a);
-    match p {
-        Truth::F => in_row(no, no, no, no, q),
-        Truth::U => in_row(no, u, u, e, q),
-        Truth::T => in_row(no, u, yes, e, q),
-        Truth::O => in_row(e, e, e, e, q),
+    match (truth_of(a), truth_of(b)) {
+        (Truth::F, _) => Value::Boolean(false),
+        (Truth::O, _) | (_, Truth::O) => Value::Error,
+        (_, Truth::F) => Value::Boolean(false),
+        (Truth::T, Truth::T) => Value::Boolean(true),
+        _ => Value::Undefined,
     }
 }
 
 pub fn or(a: Value, b: Value) -> Value
     ensures { result ≡ or_value a b }
 {
-    let no = Value::Boolean(false);
-    let yes = Value::Boolean(true);
-    let u = Value::Undefined;
-    let e = Value::Error;
-    let q = truth_of(b);
-    let p = truth_of(a);
-    match p {
-        Truth::F => in_row(no, u, yes, e, q),
-        Truth::U => in_row(u, u, yes, e, q),
-        Truth::T => in_row(yes, yes, yes, yes, q),
-        Truth::O => in_row(e, e, e, e, q),
+    match (truth_of(a), truth_of(b)) {
+        (Truth::T, _) => Value::Boolean(true),
+        (Truth::O, _) | (_, Truth::O) => Value::Error,
+        (_, Truth::T) => Value::Boolean(true),
+        (Truth::F, Truth::F) => Value::Boolean(false),
+        _ => Value::Undefined,
     }
 }
 
 pub fn not(a: Value) -> Value
     ensures { result ≡ not_value a }
 {
-    let no = Value::Boolean(false);
-    let yes = Value::Boolean(true);
-    let p = truth_of(a);
-    in_row(yes, Value::Undefined, no, Value::Error, p)
+    match truth_of(a) {
+        Truth::F => Value::Boolean(true),
+        Truth::U => Value::Undefined,
+        Truth::T => Value::Boolean(false),
+        Truth::O => Value::Error,
+    }
 }
 
 pub fn conditional(p: Value, a: Value, b: Value) -> Value
     ensures { result ≡ conditional_value p a b }
 {
-    let t = truth_of(p);
-    in_row(b, Value::Undefined, a, Value::Error, t)
+    match truth_of(p) {
+        Truth::F => b,
+        Truth::U => Value::Undefined,
+        Truth::T => a,
+        Truth::O => Value::Error,
+    }
 }

@@ -2,7 +2,7 @@
 #![tactic(auto)]
 
 ghost use Rattle.std.specs.Prelude.{◌≡◌};
-ghost use Rattle.operands.specs.Inner.Operands.{with_undefined, with_integer, with_real, with_string, operands_of, number_only};
+ghost use Rattle.operands.specs.Inner.Operands.{operands_of, number_only};
 
 use values::Value;
 
@@ -16,68 +16,21 @@ pub enum Operands {
     Strings(bool, u16, u16, bool, u16, u16),
 }
 
-fn with_undefined(b: Value) -> Operands
-    ensures { result ≡ with_undefined b }
-{
-    match b {
-        Value::Undefined => Operands::Missing,
-        Value::Error => Operands::Refused,
-        Value::Boolean(_) => Operands::Refused,
-        Value::Integer(_) => Operands::Missing,
-        Value::Real(_) => Operands::Missing,
-        Value::String(_, _, _) => Operands::Missing,
-    }
-}
-
-fn with_integer(x: u32, b: Value) -> Operands
-    ensures { result ≡ with_integer x b }
-{
-    match b {
-        Value::Undefined => Operands::Missing,
-        Value::Error => Operands::Refused,
-        Value::Boolean(_) => Operands::Refused,
-        Value::Integer(y) => Operands::Integers(x, y),
-        Value::Real(y) => Operands::Reals(reals::of_integer(x), y),
-        Value::String(_, _, _) => Operands::Refused,
-    }
-}
-
-fn with_real(x: f64, b: Value) -> Operands
-    ensures { result ≡ with_real x b }
-{
-    match b {
-        Value::Undefined => Operands::Missing,
-        Value::Error => Operands::Refused,
-        Value::Boolean(_) => Operands::Refused,
-        Value::Integer(y) => Operands::Reals(x, reals::of_integer(y)),
-        Value::Real(y) => Operands::Reals(x, y),
-        Value::String(_, _, _) => Operands::Refused,
-    }
-}
-
-fn with_string(side: bool, offset: u16, length: u16, b: Value) -> Operands
-    ensures { result ≡ with_string side offset length b }
-{
-    match b {
-        Value::Undefined => Operands::Missing,
-        Value::Error => Operands::Refused,
-        Value::Boolean(_) => Operands::Refused,
-        Value::Integer(_) => Operands::Refused,
-        Value::Real(_) => Operands::Refused,
-        Value::String(s, o, n) => Operands::Strings(side, offset, length, s, o, n),
-    }
-}
-
 pub fn pair_of(a: Value, b: Value) -> Operands
     ensures { result ≡ operands_of a b }
 {
-    match a {
-        Value::Undefined => with_undefined(b),
-        Value::Error => Operands::Refused,
-        Value::Boolean(_) => Operands::Refused,
-        Value::Integer(x) => with_integer(x, b),
-        Value::Real(x) => with_real(x, b),
-        Value::String(side, offset, length) => with_string(side, offset, length, b),
+    match (a, b) {
+        (Value::Error | Value::Boolean(_), _) | (_, Value::Error | Value::Boolean(_)) =>
+            Operands::Refused,
+        (Value::Undefined, _) | (_, Value::Undefined) => Operands::Missing,
+        (Value::Integer(x), Value::Integer(y)) => Operands::Integers(x, y),
+        (Value::Integer(x), Value::Real(y)) => Operands::Reals(reals::of_integer(x), y),
+        (Value::Real(x), Value::Integer(y)) => Operands::Reals(x, reals::of_integer(y)),
+        (Value::Real(x), Value::Real(y)) => Operands::Reals(x, y),
+        (Value::String(side, offset, length), Value::String(s, o, n)) => Operands::Strings(
+            side, offset, length, s, o, n,
+        ),
+        _ => Operands::Refused,
     }
 }
 
@@ -85,11 +38,7 @@ pub fn number_only(v: Value) -> Value
     ensures { result ≡ number_only v }
 {
     match v {
-        Value::Undefined => v,
-        Value::Error => v,
-        Value::Boolean(_) => v,
-        Value::Integer(_) => v,
-        Value::Real(_) => v,
-        Value::String(_, _, _) => Value::Error,
+        Value::String(..) => Value::Error,
+        _ => v,
     }
 }

@@ -13,12 +13,10 @@ pub fn value_at(table: &[u64], second: bool, node: usize) -> Slot
     ensures { result ≡ shown_at table.now second node }
 {
     if node < syntax::NODES {
-        if second {
-            return slots::load(table, syntax::NODES + node);
-        }
-        return slots::load(table, node);
+        slots::load(table, if second { syntax::NODES + node } else { node })
+    } else {
+        Slot::Blank
     }
-    Slot::Blank
 }
 
 // The bytes of a String value, as a part of its ad's memory, cut to what that holds.

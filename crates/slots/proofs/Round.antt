@@ -2,12 +2,12 @@
 use mathlib.Core.Path.{◌≡◌, refl, sym, ap, ap₂, ◌∙◌}
 use mathlib.Core.Bool.{Bool, true, false, not}
 use mathlib.Core.List.{List}
-use Prim.Native.Nat.{ℕ, ◌+◌, ◌*◌, ◌/◌, ◌%◌, ◌^◌, ◌≤◌, ◌<◌}
+use Prim.Native.Nat.{ℕ, ◌+◌, ◌*◌, ◌/◌, ◌%◌, ◌^◌, ◌<◌}
 use native.Mathlib.Nat.{mod-eq_of_lt}
 use native.Mathlib.Omega.{arith}
 use lib.Dec.{eqb}
 use lib.ListN.{length, set, length-set}
-use lib.Seq.{get_or-set_same, get_or-set_other, set_out}
+use lib.Seq.{get_or-set_same, get_or-set_other}
 use lib.Ieee.{Float, binary64}
 use lib.Ieee.Bits.{of_bits-to_bits}
 use borrow.Author.Tests.{eq-eqb, ne_eqb}
@@ -16,7 +16,7 @@ use Rattle.values.specs.declared.Value.TheVariants.{Undefined, Error, Boolean, I
 use Rattle.values.specs.Values.{Sized}
 use Rattle.slots.specs.declared.Slot.{Slot}
 use Rattle.slots.specs.declared.Slot.TheVariants.{Blank, Held}
-use Rattle.slots.specs.Packed.{kind_of, place_word, load_of, kind_word, load_word, slot_of, slot_at, put_at, Stored}
+use Rattle.slots.specs.Packed.{kind_of, place_word, load_of, kind_word, load_word, slot_of, slot_at, put_at}
 use Rattle.slots.specs.Inner.Packing.{SizedSlot, Packs}
 
 -- ---- a value's two words
@@ -71,28 +71,3 @@ module _ (t : List ℕ) (i : ℕ) (s : Slot) where
       ∙ get_or-set_other t (i * 2) (j * 2) (kind_word s) 0 (λ e. n (let q : j ≡ i = omega arith in q)))
       (get_or-set_other (set t (i * 2) (kind_word s)) (i * 2 + 1) (j * 2 + 1) (load_word s) 0 (λ e. n (let q : j ≡ i = omega arith in q))
       ∙ get_or-set_other t (i * 2) (j * 2 + 1) (kind_word s) 0 (λ e. omega arith))
-
-  put : (u : List ℕ) → slot_of (kind_word s) (load_word s) ≡ s → u ≡ put_at t i s → Stored t u i s
-  put u z e =
-      record {
-        whole = e;
-        holds = λ h. ap (λ (l : List ℕ). slot_at l i) e ∙ same_slot h z;
-        keeps = λ j n. ap (λ (l : List ℕ). slot_at l j) e ∙ other_slot j n;
-      }
-
-  -- beyond the table's end
-  pub put_beyond : length t ≤ i * 2 → Stored t t i s
-  put_beyond h =
-      let e : t ≡ put_at t i s = sym (ap (λ (l : List ℕ). set l (i * 2 + 1) (load_word s)) (set_out t (i * 2) (kind_word s) h) ∙ set_out t (i * 2 + 1) (load_word s) (let k : length t ≤ i * 2 + 1 = omega arith in k)) in
-      record { whole = e; holds = λ k. absurd (let z : ⊥ = omega arith in z); keeps = λ j n. refl }
-
--- the two words written one after the other
-module _ (t t' u : List ℕ) (i : ℕ) where
-  pub put_blank : (s : Slot) → s ≡ Blank → t' ≡ set t (i * 2) 0 → u ≡ set t' (i * 2 + 1) 0 → Stored t u i s
-  put_blank s e p q = rw e (put t i Blank u refl (q ∙ ap (λ (l : List ℕ). set l (i * 2 + 1) 0) p))
-
-  pub put_held : (s : Slot) (v : Value) (k n : ℕ) → s ≡ Held v → k ≡ kind_of v → Packs v n → t' ≡ set t (i * 2) k → u ≡ set t' (i * 2 + 1) n → Stored t u i s
-  put_held s v k n e f g p q =
-      rw e
-      (put t i (Held v) u (ap (slot_of (kind_of v)) (sym g.word) ∙ g.back)
-      (q ∙ ap₂ (λ (l : List ℕ) (x : ℕ). set l (i * 2 + 1) x) (p ∙ ap (set t (i * 2)) f) g.word))

@@ -33,30 +33,26 @@ fn kind_of(v: Value) -> u64
 pub fn bits_of(x: f64) -> u64
     ensures { result ≡ to_bits binary64 x }
 {
-    if x != x {
-        return 0x7FF8_0000_0000_0000;
+    if x.is_nan() {
+        0x7FF8_0000_0000_0000
+    } else {
+        x.to_bits()
     }
-    f64::to_bits(x)
 }
 
 fn place_word(side: bool, offset: u16, length: u16) -> u64
     ensures { result ≡ place_word side offset length }
 {
-    let low = (offset as u64) * 65536 + (length as u64);
-    if side {
-        return 4294967296 + low;
-    }
-    low
+    u64::from(side) * 4294967296 + u64::from(offset) * 65536 + u64::from(length)
 }
 
 fn load_of(v: Value) -> u64
     ensures { Packs v result }
 {
     match v {
-        Value::Undefined => 0,
-        Value::Error => 0,
-        Value::Boolean(b) => { if b { 1 } else { 0 } }
-        Value::Integer(x) => x as u64,
+        Value::Undefined | Value::Error => 0,
+        Value::Boolean(b) => u64::from(b),
+        Value::Integer(x) => u64::from(x),
         Value::Real(x) => bits_of(x),
         Value::String(side, offset, length) => place_word(side, offset, length),
     }
@@ -66,9 +62,10 @@ fn real_of(p: u64) -> f64
     ensures { result ≡ of_bits binary64 p }
 {
     if p % 0x8000_0000_0000_0000 <= 0x7FF0_0000_0000_0000 {
-        return f64::from_bits(p);
+        f64::from_bits(p)
+    } else {
+        f64::NAN
     }
-    0.0 / 0.0
 }
 
 // The slot of any two words.
@@ -94,10 +91,7 @@ fn unpacked(k: u64, p: u64) -> Slot
 fn word(table: &[u64], k: usize) -> u64
     ensures { result ≡ get_or table.now k 0 }
 {
-    if k < table.len() {
-        return table[k];
-    }
-    0
+    table.get(k).copied().unwrap_or(0)
 }
 
 fn set_word(table: &mut [u64], k: usize, w: u64)
@@ -112,24 +106,21 @@ pub fn load(table: &[u64], i: usize) -> Slot
     ensures { result ≡ slot_at table.now i }
 {
     if i <= table.len() / 2 {
-        return unpacked(word(table, i * 2), word(table, i * 2 + 1));
+        unpacked(word(table, i * 2), word(table, i * 2 + 1))
+    } else {
+        Slot::Blank
     }
-    Slot::Blank
 }
 
 pub fn store(table: &mut [u64], i: usize, s: Slot)
     ensures { Stored table.old table.new i s }
 {
     if i <= table.len() / 2 {
-        match s {
-            Slot::Blank => {
-                set_word(table, i * 2, 0);
-                set_word(table, i * 2 + 1, 0);
-            }
-            Slot::Held(v) => {
-                set_word(table, i * 2, kind_of(v));
-                set_word(table, i * 2 + 1, load_of(v));
-            }
-        }
+        let (kind, load) = match s {
+            Slot::Blank => (0, 0),
+            Slot::Held(v) => (kind_of(v), load_of(v)),
+        };
+        set_word(table, i * 2, kind);
+        set_word(table, i * 2 + 1, load);
     }
 }

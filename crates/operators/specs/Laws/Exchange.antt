@@ -17,7 +17,6 @@ use Rattle.operands.specs.declared.Operands.{Operands}
 use Rattle.operands.specs.declared.Operands.TheVariants.{Refused, Missing, Integers, Reals, Strings}
 use Rattle.operands.specs.Inner.Operands.{with_undefined, with_integer, with_real, with_string, operands_of, number_only}
 use Rattle.arithmetic.specs.declared.Arithmetic.{Arithmetic}
-use Rattle.arithmetic.specs.declared.Arithmetic.TheVariants as Arithmetic
 use Rattle.arithmetic.specs.Arithmetic.{integers_result, arithmetic_value, minus_value, plus_value}
 use Rattle.arithmetic.specs.Inner.Operands.{arithmetic_result}
 use Rattle.arithmetic.specs.Laws.Strict.{arithmetic_by_pair}
