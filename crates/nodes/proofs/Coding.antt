@@ -1,32 +1,12 @@
--- The numbers of kinds and the kinds that they stand for. Assumes nothing.
-use Rattle.std.specs.Prelude.{◌≡◌, refl, Bool, Option, Some, None, List, [], ◌∷◌, ℕ, zero, suc, ◌+◌, ◌≤◌, length, slice_get}
-use Rattle.std.specs.Option.{option_map}
-use Rattle.std.proofs.Common.{sym, ap, ◌∙◌, arith}
-use Rattle.std.proofs.lemmas.Option.{none-some, same_Some, slice_get-map}
+-- A number that is no kind's is no node's. Assumes nothing.
+use Rattle.std.proofs.Common.{◌≡◌, refl, sym, None, List, [], ◌∷◌, Bool, ℕ, zero, suc, ◌≤◌, length, arith}
+use Rattle.std.specs.List.{slice_get}
+use Rattle.std.proofs.lemmas.Option.{none-some}
 use borrow.Author.Tests.{le-ltb, ne_eqb}
-use Rattle.ad.specs.declared.kind.Kind.{Kind}
-use Rattle.ad.specs.Layout.{code_of}
 use Rattle.ad.specs.Stored.{kinds, kind_of, arity}
 use Rattle.nodes.specs.Nodes.{node_of}
 use Rattle.nodes.specs.declared.Node.TheVariants.{Constant}
 use Rattle.values.specs.declared.Value.TheVariants.{Undefined}
-
-rising : ℕ → ℕ → List ℕ
-rising n zero = []
-rising n (suc m) = n ∷ rising (suc n) m
-
-rising_at : (n m k : ℕ) {v : ℕ} → slice_get (rising n m) k ≡ Some v → v ≡ n + k
-unfolding rising
-rising_at n zero k {v} e = absurd (none-some v e)
-rising_at n (suc m) zero {v} e = let a = same_Some n v e in omega arith
-rising_at n (suc m) (suc k) e = let a = rising_at (suc n) m k e in omega arith
-
-pub coded : (k : ℕ) (d : Kind) → kind_of k ≡ Some d → code_of d ≡ k
-unfolding kind_of rising
-coded zero d e = absurd (none-some d e)
-coded (suc k) d e =
-    let a = rising_at 1 27 k (slice_get-map code_of kinds k ∙ ap (λ (o : Option Kind). option_map code_of o) e) in
-    omega arith
 
 past : {A : Type 0} (l : List A) (k : ℕ) → slice_get l k ≡ None → length l ≤ k
 past [] k e = omega arith

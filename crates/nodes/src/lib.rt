@@ -33,14 +33,13 @@ fn constant_of(second: bool, kind: Kind, a: u64, b: u64) -> Value
     }
 }
 
-// The node of any numbers: its kind, and its first two operands or data; `second` where it is the second ad's.
+// The node of a kind, and its first two operands or data; `second` where it is the second ad's.
 #[tactic(auto, unfolding(ad::specs::Stored::arity, ad::specs::Stored::unary_of, ad::specs::Stored::binary_of))]
 fn node_of_kind(second: bool, kind: Kind, a: u64, b: u64) -> Node
     ensures { result ≡ node_of second (code_of kind) a b }
 {
     match kind {
-        Kind::Own => Node::Reference,
-        Kind::Other => Node::Reference,
+        Kind::Own | Kind::Other => Node::Reference,
         Kind::Unary(op) => Node::OfOne(op),
         Kind::Binary(op) => Node::OfTwo(op),
         Kind::Conditional => Node::Conditional,
@@ -48,7 +47,7 @@ fn node_of_kind(second: bool, kind: Kind, a: u64, b: u64) -> Node
     }
 }
 
-// The node of any numbers: its kind, and its first two operands or data; `second` where it is the second ad's.
+// The node of any numbers: its kind, if the first of them is one's, and its first two operands or data.
 pub fn node_of(second: bool, kind: Option<Kind>, a: u64, b: u64) -> Node
     ensures { (k : ℕ) → kind ≡ kind_of k → result ≡ node_of second k a b }
 {

@@ -21,8 +21,6 @@ pub fn part<'a>(first: &'a [u8], second: &'a [u8], side: bool, offset: u16, leng
     ensures result_value { result.now ≡ bytes_at first.now second.now side offset length }
     ensures place { PartFrom (cond side second.entry first.entry) offset result }
 {
-    if side {
-        return parts::cut(second, offset as usize, length as usize);
-    }
-    parts::cut(first, offset as usize, length as usize)
+    let bytes = if side { second } else { first };
+    parts::cut(bytes, usize::from(offset), usize::from(length))
 }
