@@ -23,7 +23,7 @@ use Rattle.values.specs.declared.Value.{Value}
 use Rattle.nodes.specs.declared.Node as kind
 use Rattle.nodes.specs.Nodes.{rule_of}
 use Rattle.evaluation.specs.Evaluation.{node_from, rule_at}
-use Rattle.trees.specs.Nodes.{Node, leaf, refers, last_of, nodes_in, Says}
+use Rattle.trees.specs.Nodes.{leaf, refers, last_of, nodes_in, Says}
 use Rattle.trees.specs.Links.{leads, is_reference, leads_from, is_reference_at, tree_graph}
 use Rattle.trees.specs.Values.{ad_of, side_of, Finds, found_first, found_later, Defines, defines_first, defines_later, Part}
 use Rattle.trees.proofs.Laws.Stored.{length_in, stored_node}
