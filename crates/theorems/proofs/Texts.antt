@@ -40,7 +40,7 @@ outcome_of (Err e) n = absurd (n e refl)
 pub trees_match : {s t v₀ b₀ w₀ c₀ v b w c : List ℕ} {x y : Result Counts Refusal} {a e : Ad} {budget : ℕ} {table list table' list' : List ℕ} {r : Result Outcome Refusal} →
     ReadAs s v₀ b₀ v b x a → ReadAs t w₀ c₀ w c y e → Matched v b w c budget table list table' list' r → (o : Outcome) → r ≡ Ok o → TreesMatch a e budget table list table' list' o
 trees_match x y (refused f q t l) o u = let g = sym q ∙ u in let z : ◌≡◌ {A = ℕ} 0 1 = cc in absurd (omega arith)
-trees_match {a = a} {e} {budget} {table} {list} {table'} {list'} x y (matches {o'} f q values entries m t l) o u =
+trees_match {a = a} {e} {budget} {table} {list} {table'} {list'} x y (matches {o = o'} f q values entries m t l) o u =
     let same : o' ≡ o = cc in
     subst (λ (z : Outcome). TreesMatch a e budget table list table' list' z) same (record {
       values = values;

@@ -169,7 +169,7 @@ pub ordered_found : {v b w c flags list flags' list' : List ℕ} {o : Order} →
     (marks entries : List ℕ) × (flags' ≡ marks ++ drop pair_slots flags) × (list' ≡ entries ++ drop pair_slots list) ×
     Orders (take ad_words v) (take ad_bytes_room b) (take ad_words w) (take ad_bytes_room c) marks entries o.transitions o.length
 ordered_found (O.refused e a f l) = let z : ◌≡◌ {A = ℕ} 0 1 = cc in absurd (omega arith)
-ordered_found {v} {b} {w} {c} {o = o} (O.orders {o'} e a marks entries x f l) =
+ordered_found {v} {b} {w} {c} {o = o} (O.orders {o = o'} e a marks entries x f l) =
     let same : o' ≡ o = cc in
     (marks, entries, f, l, subst (λ (z : Order). Orders (take ad_words v) (take ad_bytes_room b) (take ad_words w) (take ad_bytes_room c) marks entries z.transitions z.length) same x)
 
