@@ -48,6 +48,7 @@ pub fn misused(rt: &HostRuntime) {
 }
 
 // Standard output. Once it does not take what is written, that is said on standard error, and nothing more is written.
+#[derive(Drop)]
 pub struct Output {
     rt: HostRuntime,
     lost: bool,

@@ -1,6 +1,6 @@
 -- The same of finished matches, and of texts.
-use Rattle.std.specs.Prelude.{ℕ, ◌+◌, ◌≤◌, ◌≡◌, Bool, Result, Ok, Err, List, [], length, take}
-use Rattle.std.proofs.Common.{arith, sym, subst}
+use Rattle.std.specs.Prelude.{ℕ, ◌+◌, ◌≤◌, ◌≡◌, Bool, Result, Ok, List, [], length, take}
+use Rattle.std.proofs.Common.{arith, subst}
 use Rattle.links.specs.Pair.{pair_slots}
 use Rattle.ad.specs.Layout.{ad_words, ad_bytes_room, stored_words, stored_bytes}
 use Rattle.links.specs.Inner.Asked.{Formed}

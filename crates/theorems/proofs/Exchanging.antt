@@ -1,6 +1,6 @@
 -- THE TWO ADS EXCHANGED, in terms of what callers hold: two matches in any memory are refused alike, or the verdict is kept and the ranks
 -- change places; also with two budgets, where both finish; and of two texts. Assumes nothing.
-use Rattle.std.specs.Prelude.{ℕ, ◌+◌, ◌≤◌, ◌<◌, ◌≡◌, refl, Bool, true, false, cond, ◌||◌, Result, Ok, Err, List, length, take, ltb}
+use Rattle.std.specs.Prelude.{ℕ, ◌+◌, ◌≤◌, ◌<◌, ◌≡◌, refl, Bool, true, false, cond, ◌||◌, Result, Err, List, length, take, ltb}
 use Rattle.std.proofs.Math.Decide.{dec_lt}
 use Rattle.std.proofs.Common.{arith, sym, ap, ◌∙◌, true≢false, le-ltb}
 use Rattle.std.proofs.Math.Bool.{or-true}
@@ -14,7 +14,7 @@ use Rattle.admission.specs.Laws.Wells.{formed_of}
 use Rattle.matching.proofs.Laws.Exchange.{Exchanged, finished, unfinished, exchange}
 use Rattle.matching.specs.declared.Outcome.{Outcome}
 use Rattle.matching.specs.declared.Outcome.TheVariants.{Finished, Unfinished}
-use Rattle.syntax.specs.Refusals.{number_of, refusal}
+use Rattle.syntax.specs.Refusals.{refusal}
 use Rattle.syntax.specs.declared.Refusal.{Refusal}
 use Rattle.theorems.specs.Existing.{TheAnswer, answer_at}
 use Rattle.theorems.proofs.Laws.Budgets.{match_budget}

@@ -1,6 +1,6 @@
 -- THE LIST OF A MATCH: no entry stands twice, and there are no more entries than the two ads have nodes. So no match takes more steps
 -- than that, and a budget of 2,048 is always enough. Assumes nothing.
-use Rattle.std.specs.Prelude.{ℕ, ◌+◌, ◌≤◌, ◌<◌, min, ◌≡◌, Result, Ok, Err, List, length, take}
+use Rattle.std.specs.Prelude.{ℕ, ◌+◌, ◌≤◌, ◌<◌, min, ◌≡◌, Result, Err, List, length, take}
 use Rattle.std.proofs.Math.Decide.{dec_lt}
 use Rattle.std.proofs.Common.{arith, sym, ap, ◌∙◌, subst}
 use Rattle.ad.specs.Layout.{ad_words}

@@ -9,7 +9,7 @@ use Rattle.syntax.specs.declared.Refusal.{Refusal}
 use Rattle.reader.specs.Content.{Answered}
 use Rattle.matching.specs.Matching.{Matched, table_words}
 use Rattle.matching.specs.declared.Outcome.{Outcome}
-use Rattle.worked.specs.Table.{Row, Comes, table}
+use Rattle.worked.specs.Table.{Row, Comes}
 use Rattle.theorems.specs.Texts.{TreesMatch}
 
 -- what the memory shows of a row of the table: values, list, verdict, ranks and steps

@@ -3,7 +3,7 @@
 -- for `match_ads`, `Ordered` for `order_ads`. Words and bytes are an ad's lent memory, ₁ is the first ad and ₂ the second, `old` is what
 -- memory held before a call, and ' is what it holds after. `read` and `parse` are document 01's reading as a function, with the bound on
 -- the text's length and without. Assumes nothing.
-use Rattle.std.specs.Prelude.{ℕ, suc, ◌+◌, ◌-◌, ◌*◌, ◌^◌, ◌≤◌, ◌<◌, min, ◌≡◌, refl, ◌↔◌, ◌⊎◌, ◌≢◌, Bool, true, false, cond, ◌&&◌, ◌||◌, Option, Some, None, Result, Ok, Err, length, get_or, take, drop, replicate, T, ltb, pos, nat_abs, Float}
+use Rattle.std.specs.Prelude.{ℕ, suc, ◌+◌, ◌-◌, ◌*◌, ◌^◌, ◌≤◌, ◌<◌, min, ◌≡◌, refl, ◌↔◌, ◌⊎◌, ◌≢◌, Bool, true, false, cond, ◌&&◌, ◌||◌, Option, Some, None, Result, Ok, length, get_or, take, drop, replicate, T, ltb, pos, nat_abs, Float}
 use Rattle.std.proofs.Common.{ap, ◌∙◌}
 use mathlib.Core.List.{List, [], ◌∷◌, ◌++◌, map, Memᴰ}
 use Rattle.std.specs.Float.{Format, binary64}
@@ -438,9 +438,15 @@ pub texts_answer : {text₁ text₂ : List ℕ} {tree₁ tree₂ : Ad} → read 
     4096 ≤ length table → 2048 ≤ length list → Matched words₁ bytes₁ words₂ bytes₂ budget table list table' list' result →
     result ≡ Ok (cond (ltb budget steps) (outcome.Unfinished budget count) (outcome.Finished verdict rank₁ rank₂ steps count)))
 texts_answer reads₁ reads₂ =
-    let x = texts.texts_answer reads₁ reads₂ in
-    (x.verdict, x.first_rank, x.second_rank, x.steps, x.count, λ _ _ _ _ _ _ _ _ _ _ _ _ _ _ _ _ call₁ call₂ table_room list_room match.
-    let m = texts.texts_match call₁ call₂ table_room list_room match in m.1 ∙ ap Ok (x.only m.2))
+    let x = texts.texts_answer reads₁ reads₂ in (
+      x.verdict,
+      x.first_rank,
+      x.second_rank,
+      x.steps,
+      x.count,
+      λ _ _ _ _ _ _ _ _ _ _ _ _ _ _ _ _ call₁ call₂ table_room list_room match.
+          let m = texts.texts_match call₁ call₂ table_room list_room match in m.1 ∙ ap Ok (x.only m.2),
+    )
 
 -- Undefined is no match: a bench that says `!(other.PulseWidth > 50)` does not take a job that came without PulseWidth.
 pub missing_pulse_width : {old_words₁ old_bytes₁ old_words₂ old_bytes₂ words₁ bytes₁ words₂ bytes₂ : List ℕ} {answer₁ answer₂ : Result Counts Refusal} {budget : ℕ} {table list table' list' : List ℕ} {result : Result Outcome Refusal} →

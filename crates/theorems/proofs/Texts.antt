@@ -115,14 +115,17 @@ module _ (row : Row) (h : Holds row) where
       let y' = subst (λ (z : Result Counts Refusal). Answered row.second w₀ c₀ w c z) e.answers y in
       let o = outcome_of r (read_matches x' y' i j m) in
       let t = trees_match a e m o.0 o.1 in
-      let k = h.comes t.is_match in
-      (o.0, o.1, record {
-        first = h.first_ad;
-        second = h.second_ad;
-        trees = t;
-        comes = k;
-        listed = t.list_is ∙ ap (λ (l : List ℕ). l ++ drop pair_slots list) (t.is_match.listed ∙ ap (λ (l : List ℕ). map suc l ++ replicate (2048 - length l) 0) k.lists);
-      })
+      let k = h.comes t.is_match in (
+        o.0,
+        o.1,
+        record {
+          first = h.first_ad;
+          second = h.second_ad;
+          trees = t;
+          comes = k;
+          listed = t.list_is ∙ ap (λ (l : List ℕ). l ++ drop pair_slots list) (t.is_match.listed ∙ ap (λ (l : List ℕ). map suc l ++ replicate (2048 - length l) 0) k.lists);
+        },
+      )
 
   row_shows : Shows row
   row_shows = record { shows = row_shown }

@@ -7,7 +7,6 @@ use Rattle.syntax.specs.Reader as R
 use Rattle.ad.specs.Layout.{stored_words, stored_bytes}
 use Rattle.matching.specs.Matching.{Match, table_words}
 use Rattle.matching.specs.declared.Outcome.{Outcome}
-use Rattle.worked.specs.Table.{table}
 use Rattle.theorems.specs.Existing.{answer_at}
 
 -- a match of the trees a and e, in memory: table' and list' are what is left of table and list. 'Memory lent beyond these sizes is never
