@@ -9,7 +9,7 @@ use lib.ListN.{length}
 use lib.Dec.{eqb, ltb, leb}
 use borrow.Author.Tests.{ltb-false, lt-ltb, le-ltb, le-leb, lt-leb, eq-eqb, ne_eqb}
 use Rattle.ad.specs.Stored.{length_at, root_at}
-use Rattle.std.proofs.Common.{Option, Some, None}
+use Rattle.std.proofs.Common.{Some, None}
 use Rattle.holders.specs.Holders.{holder_from, holder}
 
 pub too_short : (w : List ℕ) (i : ℕ) → length w < 4864 → None ≡ holder w i

@@ -1,14 +1,13 @@
 -- Each way through the functions that read a stored ad. Assumes nothing.
-use mathlib.Core.Path.{◌≡◌, refl, sym, ap, ◌∙◌}
+use mathlib.Core.Path.{◌≡◌, sym, ap, ◌∙◌}
 use mathlib.Core.Logic.{◌≢◌}
 use mathlib.Core.Bool.{Bool, true, false, cond}
 use mathlib.Core.List.{List, [], ◌∷◌, map}
 use Prim.Native.Nat.{ℕ, suc, ◌+◌, ◌-◌, ◌≤◌, ◌<◌}
 use native.Mathlib.Numerals.{add-one}
 use native.Mathlib.Omega.{arith}
-use native.Mathlib.Decide.{ℕ_discrete}
 use lib.ListN.{length, get_or, set}
-use lib.Seq.{get_or-set_same, get_or-set_other}
+use lib.Seq.{get_or-set_other}
 use Rattle.text.specs.Strings.{same_name}
 use Rattle.syntax.specs.Bounds.{max_definitions}
 use Rattle.graph.specs.Transition.{marked}
@@ -21,25 +20,6 @@ use Rattle.links.specs.Inner.Filling.{Filled}
 use Rattle.links.specs.Laws.Counting.{nodes_few}
 
 -- ---- fingerprints
-
-pub filled_none : (second : Bool) (w b l : List ℕ) → Filled second w b 0 l l
-filled_none second w b l = record { filled = λ j h. absurd (none j h); kept = λ i h. refl }
-  where
-    none : (j : ℕ) → j < 0 → ⊥
-    none j h = omega arith
-
-pub prints_apart : (second : Bool) (i j : ℕ) → i ≢ j → print_at second i ≢ print_at second j
-prints_apart true i j n e = n (let q : i ≡ j = omega arith in q)
-prints_apart false i j n e = n e
-
--- one more definition has its fingerprint
-pub filled_next : {second : Bool} {w b l₀ l : List ℕ} {j at a : ℕ} → Filled second w b j l₀ l → at ≡ print_at second j → at < length l →
-    a ≡ fingerprint_of (bytes_at b (offset_at w j) (length_at w j)) → Filled second w b (j + 1) l₀ (set l at a)
-filled_next {second} {w} {b} {l₀} {l} {j} {at} {a} f e h q = record { filled = λ i k. one i k (ℕ_discrete i j); kept = λ i k. keep i k }
-  where
-    one : (i : ℕ) → i < j + 1 → Dec (i ≡ j) → get_or (set l at a) (print_at second i) 0 ≡ fingerprint_of (bytes_at b (offset_at w i) (length_at w i))
-    one i k (yes d) = rw (d, ← e) (get_or-set_same l at a 0 h ∙ q)
-    one i k (no n) = get_or-set_other l at (print_at second i) a 0 (λ z. prints_apart second i j n (z ∙ e)) ∙ f.filled i (omega arith)
 
     keep : (i : ℕ) → ((m : ℕ) → m < j + 1 → i ≢ print_at second m) → get_or (set l at a) i 0 ≡ get_or l₀ i 0
     keep i k = get_or-set_other l at i a 0 (λ z. k j (omega arith) (z ∙ e)) ∙ f.kept i (λ m r. k m (omega arith))

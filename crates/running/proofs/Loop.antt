@@ -1,5 +1,5 @@
 -- The loop of the run: what holds before each step, and what is then asked and had. Assumes nothing.
-use Prim.Native.Nat.{ℕ, ◌+◌, ◌-◌, ◌≤◌, ◌<◌, min}
+use Prim.Native.Nat.{ℕ, ◌+◌, ◌-◌, ◌<◌, min}
 use native.Mathlib.Omega.{arith}
 use mathlib.Core.Path.{◌≡◌, sym, ap, ◌∙◌, subst}
 use mathlib.Core.List.{List}
@@ -32,9 +32,6 @@ module _ (m : Marked) (list : List ℕ) (k : ℕ) (table₀ : List ℕ) where
   turn_first = run_first (needs_of m) (rule_of_node m) (entries (length list) list) k table₀
 
   module _ (a : AtRun m.sides.first.words.now m.sides.second.words.now m.target.now m.flag.now list table₀) {n : ℕ} (h : n < length list - k) where
-    pub turn_entry : 1 ≤ get_or list (k + n) 0
-    turn_entry = (a.listed (k + n) (omega arith)).0
-
     pub turn_step : AtStep m.sides.first.words.now m.sides.second.words.now m.target.now m.flag.now (get_or list (k + n) 0 - 1)
     turn_step =
         let s = (a.listed (k + n) (omega arith)).1 in

@@ -1,7 +1,7 @@
 // The run over the list, one step for each entry.
 #![tactic(auto)]
 
-ghost use Rattle.std.specs.Prelude.{◌≡◌, length};
+ghost use Rattle.std.specs.Prelude.{length};
 ghost use Rattle.evaluation.specs.Evaluation.{entries, RunTo};
 ghost use Rattle.evaluation.specs.Marked.{needs_of, rule_of_node};
 ghost use Rattle.evaluation.specs.Inner.Asked.{AtRun};

@@ -9,17 +9,13 @@ use Rattle.graph.specs.Graph.{Graph, Sound, Node}
 use Rattle.graph.specs.Transition.{searches, start, led, needed, marked}
 use Rattle.ad.specs.Stored.{node_count}
 use Rattle.links.specs.Pair.{pair_graph}
-use Rattle.links.specs.Graphs.{graph_of, graph_of_sides}
+use Rattle.links.specs.Graphs.{graph_of}
 use Rattle.links.specs.Inner.Asked.{Stands, mark_of}
 use Rattle.links.specs.declared.pair.AdPair.{AdPair}
-use Rattle.links.specs.declared.sides.Sides.{Sides}
 use Rattle.links.specs.Laws.Soundness.{pair_sound}
 use Rattle.graph.specs.Members.{numbers, raised}
-use Rattle.marks.specs.Inner.Memory.{marks_room, nodes_of, AtStart, Grows}
+use Rattle.marks.specs.Inner.Memory.{marks_room, nodes_of, AtStart}
 use Rattle.links.specs.Laws.Numbering.{pair_size, stands_small, nodes_fit, needed_in}
-
-pub kept_grows : (len : ℕ) (ls : List ℕ) → Grows len len ls ls
-kept_grows len ls = record { longer = omega arith; fits = λ h. h; behind = λ i h. refl }
 
 -- a mark by the nodes that it names
 pub mark_nodes : (o : Option ℕ) → mark_of o ≡ marked (nodes_of o)
@@ -54,10 +50,6 @@ module _ (p : AdPair) where
 
   pub nth_small : {i x : ℕ} → i < (graph_of p).size → x ≡ (graph_of p).nth i → x < 2048
   nth_small h e = stands_small p.first.ad.words.now p.second.ad.words.now _ (nth_stands h e)
-
-pub slots_of_sides : (s : Sides) → (graph_of_sides s).slots ≡ marks_room
-unfolding pair_graph
-slots_of_sides s = refl
 
 pub step_start : (G : Graph) {roots : List ℕ} (k : ℕ) → roots ≡ G.roots → k < length roots → AtStart G k (get_or roots k 0)
 unfolding searches start

@@ -26,9 +26,6 @@ use Rattle.tree_check.specs.declared.Tree.{Tree}
 pub walk_if_lem : (t : Bool) (r : Option Tree) → t ≡ true → r ≡ walk_if t r
 walk_if_lem t r e = rw e refl
 
-pub walk_bad : (t : Bool) (r : Option Tree) → t ≡ false → None ≡ walk_if t r
-walk_bad t r e = rw e refl
-
 pub places_few : (x y : ℕ) → is_real x y ≡ true → y ≤ 14
 unfolding is_real
 places_few x y e =
@@ -49,9 +46,6 @@ module _ (b : List ℕ) (o x y : ℕ) (t : Bool) (e : (stands_at b o x y && t) �
 
   pub stands_room : length b ≡ 16384 → o ≤ 16384 → o + y ≤ 16384
   stands_room h g = omega (arith, stands_long, length-take y (drop o b), length-drop o b)
-
-  pub stands_test : t ≡ true
-  stands_test = and_right (stands_at b o x y) t e
 
 -- ---- leaves
 

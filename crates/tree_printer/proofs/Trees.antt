@@ -135,20 +135,6 @@ module _ (w b : List ℕ) (i at need c : ℕ) (hc : c ≡ binds_kind (kind_at w 
   binding_is s k e r = hc ∙ binds_is w b s i k e r
 
   module _ (h : need ≤ c) where
-    pub bare_fits : Fits (wrapped need) w b i at → Fits printed w b i at
-    bare_fits f =
-        let e = f.tree in
-        let z = binding_is f.first f.byte e f.stands in
-        record {
-          words = f.words;
-          node = f.node;
-          tree = e;
-          first = f.first;
-          byte = f.byte;
-          stands = f.stands;
-          near = subst (Near at) (bare need e (omega arith)) f.near;
-        }
-
     pub bare_written : (o o₁ : List ℕ) (r : ℕ) → Written printed w b i at o o₁ r → Written (wrapped need) w b i at o o₁ r
     bare_written o o₁ r W e s k x = let z = binding_is s k e x in puts_as (sym (bare need e (omega arith))) (W e s k x)
 
@@ -160,9 +146,6 @@ module _ (w b : List ℕ) (i at need c : ℕ) (hc : c ≡ binds_kind (kind_at w 
         let n : Near at (40 ∷ (printed e ++ 41 ∷ [])) = subst (Near at) (closed need e (omega arith)) f.near in
         omega (arith, length-append (printed e) (41 ∷ []))
 
-    pub closed_near : Fits (wrapped need) w b i at → at + 2 ≤ 1000000
-    closed_near f = omega (arith, whole f)
-
     pub closed_fits : Fits (wrapped need) w b i at → Fits printed w b i (at + 1)
     closed_fits f = record {
       words = f.words;
@@ -173,9 +156,6 @@ module _ (w b : List ℕ) (i at need c : ℕ) (hc : c ≡ binds_kind (kind_at w 
       stands = f.stands;
       near = omega (arith, whole f);
     }
-
-    pub closed_behind : (f : Fits (wrapped need) w b i at) (o o₁ : List ℕ) (m : ℕ) → Written printed w b i (at + 1) o o₁ m → m < 1000000
-    closed_behind f o o₁ m W = omega (arith, whole f, (W f.tree f.first f.byte f.stands).behind)
 
     pub closed_written : (o o₁ o₂ o₃ : List ℕ) (m : ℕ) → o₁ ≡ set o at 40 → Written printed w b i (at + 1) o₁ o₂ m → o₃ ≡ set o₂ m 41 → Written (wrapped need) w b i at o o₃ (m + 1)
     closed_written o o₁ o₂ o₃ m p W q e s k x =

@@ -1,7 +1,4 @@
 -- Whether all numbers are zero, one after the other and with no stop. Assumes nothing.
-use lib.ListN.{take, length-drop}
-use lib.Seq.{take_all}
-use Prim.Native.Nat.{◌-◌}
 use Prim.Native.Nat.{ℕ, ◌+◌, ◌≤◌, ◌<◌}
 use native.Mathlib.Omega.{arith}
 use mathlib.Core.Path.{◌≡◌, refl, sym, ap, ◌∙◌}
@@ -44,7 +41,3 @@ end s i clear h l = go clear l.so_far
     go : (a : Bool) → (a && every is_zero (drop i s)) ≡ every is_zero s → a ≡ every is_zero s
     go false g = g
     go true g = every_end s i h ∙ g
-
--- the rest of some numbers, whole
-pub rest_all : (l : List ℕ) (k : ℕ) → take (length l - k) (drop k l) ≡ drop k l
-rest_all l k = take_all (length l - k) (drop k l) (omega (arith, length-drop k l))

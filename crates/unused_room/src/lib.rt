@@ -1,7 +1,7 @@
 // The check that an ad's memory is zero behind its content.
 #![tactic(auto)]
 
-ghost use Rattle.std.specs.Prelude.{◌≡◌, ◌+◌, ◌*◌, ◌≤◌, ◌<◌, length};
+ghost use Rattle.std.specs.Prelude.{◌≡◌, ◌+◌, ◌*◌, ◌≤◌, length};
 ghost use Rattle.syntax.specs.Bounds.{max_definitions, max_nodes};
 ghost use Rattle.ad.specs.Layout.{ad_words, ad_bytes_room};
 ghost use Rattle.syntax.specs.Inner.Lexeme.{every};

@@ -2,7 +2,7 @@
 use Rattle.std.proofs.Common.{Some, None}
 use Prim.Native.Nat.{ℕ, zero, suc, ◌+◌, ◌-◌, ◌≤◌, ◌<◌}
 use native.Mathlib.Omega.{arith}
-use mathlib.Core.Path.{◌≡◌, refl, sym, ◌∙◌, ap, subst}
+use mathlib.Core.Path.{◌≡◌, refl, sym, ◌∙◌, subst}
 use mathlib.Core.Bool.{Bool, true, false, cond, ◌&&◌}
 use mathlib.Core.Logic.{◌⊎◌, inl, inr}
 use mathlib.Core.List.{List, [], ◌∷◌}
@@ -36,9 +36,6 @@ module _ (w b : List ℕ) (j d : ℕ) where
   pub new_end : d ≤ j → true ≡ new_from w b j (d - j)
   unfolding new_from
   new_end h = let i : d - j ≡ zero = omega arith in rw i refl
-
-pub new_all : (w b : List ℕ) (d : ℕ) → new_from w b 0 (d - 0) ≡ new_from w b 0 d
-new_all w b d = let i : d - 0 ≡ d = omega arith in ap (new_from w b 0) i
 
 -- ---- the check
 

@@ -140,9 +140,6 @@ module _ (w b : List ℕ) where
   pub walk_as : (n i j o p : ℕ) (r : Option Tree) → i ≡ j → o ≡ p → WalkOk w b n i o r → WalkOk w b n j p r
   walk_as n i j o p r e g h = subst (λ (x : ℕ). WalkOk w b n j x r) g (subst (λ (x : ℕ). WalkOk w b n x o r) e h)
 
-  pub room_as : (n i j o p : ℕ) → i ≡ j → o ≡ p → Room w b n j p → Room w b n i o
-  room_as n i j o p e g h = subst (λ (x : ℕ). Room w b n i x) (sym g) (subst (λ (x : ℕ). Room w b n x p) (sym e) h)
-
   pub rows_as : (j n m o : ℕ) (r : Option Rows) → n ≡ m → RowsOk w b j n o r → RowsOk w b j m o r
   rows_as j n m o r e h = subst (λ (x : ℕ). RowsOk w b j x o r) e h
 

@@ -1,5 +1,4 @@
 -- `holders::definition_of` meets its contract. Assumes nothing.
-use native.Mathlib.Omega.{arith}
 use mathlib.Core.Path.{sym, ◌∙◌, subst}
 use Prim.Native.Nat.{ℕ, ◌≤◌, ◌<◌}
 use Rattle.holders.proofs.Holders.{too_short, start, no_name, found, next, all_passed, long_enough}

@@ -1,8 +1,8 @@
 -- OF A STORED AD, THE DEFINITION FOUND IS THE ONE THAT THE NODE BELONGS TO. Assumes nothing.
-use Rattle.std.specs.Prelude.{ℕ, Option, Some, None, zero, suc, ◌+◌, ◌-◌, ◌≤◌, ◌<◌, ◌≡◌, refl, Bool, true, false, cond, List, [], ◌∷◌, length, eqb, ltb, leb}
+use Rattle.std.specs.Prelude.{ℕ, Some, zero, suc, ◌+◌, ◌-◌, ◌≤◌, ◌<◌, ◌≡◌, refl, Bool, true, false, cond, List, [], ◌∷◌, length, eqb, ltb, leb}
 use Rattle.std.proofs.Common.{arith, add-one, sym, ◌∙◌, ap, ltb-true, ltb-false, le-ltb, le-leb, ne_eqb}
 use Rattle.std.proofs.lemmas.Bool.{lt-leb}
-use Rattle.syntax.specs.Tree.{Definition, Ad, size, nodes}
+use Rattle.syntax.specs.Tree.{Ad, size, nodes}
 use Rattle.ad.specs.Layout.{ad_bytes}
 use Rattle.ad.specs.Stored.{length_at, root_at}
 use Rattle.ad.specs.Laws.Content.{size_some}

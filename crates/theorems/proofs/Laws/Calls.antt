@@ -39,7 +39,7 @@ use Rattle.admission.specs.Admission.{Well, no_room, first_malformed, second_mal
 use Rattle.matching.specs.declared.Outcome.{Outcome}
 use Rattle.matching.specs.declared.Outcome.TheVariants as outcome
 use Rattle.ordering.specs.Ordering as O
-use Rattle.ordering.specs.Ordering.{Orders, OrdersBy, Ordered}
+use Rattle.ordering.specs.Ordering.{Orders, Ordered}
 use Rattle.ordering.specs.declared.Order.{Order}
 use Rattle.acceptance.proofs.Acceptance.{read_matches}
 use Rattle.trees.specs.Nodes.{last_of}
