@@ -1,5 +1,5 @@
 -- W1 to W12 hold. Assumes nothing.
-use Rattle.std.specs.Prelude.{ℕ, ◌≡◌, refl, true, false, ◌&&◌, List, [], ◌∷◌, negsuc}
+use Rattle.std.specs.Prelude.{ℕ, ◌≡◌, refl, true, false, ◌&&◌, Some, List, [], ◌∷◌, negsuc}
 use Rattle.std.proofs.Common.{arith}
 use Rattle.text.specs.Bytes.{bytes, is_blank, is_digit, is_letter, starts_name, continues_name, lower_case}
 use Rattle.text.specs.Strings.{same_name, same_bytes, bytes_order, string_order}
@@ -20,7 +20,7 @@ use Rattle.evaluation.specs.Evaluation.{rule_at}
 use Rattle.verdict.specs.Verdict.{is_true, rank_of}
 use Rattle.worked.specs.Table as table
 use Rattle.worked.specs.Table.{Row, Holds, AllHold, alone, fault}
-use Rattle.worked.proofs.Laws.Solving.{given, try_with, attempt, list, among, behind, enter_with, enters}
+use Rattle.worked.proofs.Laws.Solving.{try_with, attempt, among, behind, enter_with, enters}
 use Rattle.worked.proofs.Laws.Circles.{reached, within, closed_in}
 use Rattle.worked.proofs.Laws.Trees.{tree_from, tree_links, tree_refers, tree_root, tree_roots, tree_nodes, up_to, need, circles, all_tried, circles_are, Tries, Lists, comes}
 
@@ -37,9 +37,9 @@ module _ {a e : Ad} (s : StoredAd (stored_words a) (stored_bytes a) a) (t : Stor
   needed = need s t (circles s t)
 
   holds : (r : Row) (p q i j : List Value) → read r.first ≡ accepted a → read r.second ≡ accepted e → (d : all_tried s t (tree_nodes a e) ≡ true) →
-      enters needed 16 [] (tree_roots a e) ≡ list r.order → Tries s t (circles s t) (circles_are s t d) 16 r.gives → Lists s t (circles s t) (circles_are s t d) 16 r.order r.gives →
-      attempt needed rule 16 (tree_root false requirements a) ≡ given p → attempt needed rule 16 (tree_root true requirements e) ≡ given q →
-      attempt needed rule 16 (tree_root false rank a) ≡ given i → attempt needed rule 16 (tree_root true rank e) ≡ given j →
+      enters needed 16 [] (tree_roots a e) ≡ Some r.order → Tries s t (circles s t) (circles_are s t d) 16 r.gives → Lists s t (circles s t) (circles_are s t d) 16 r.order r.gives →
+      attempt needed rule 16 (tree_root false requirements a) ≡ Some p → attempt needed rule 16 (tree_root true requirements e) ≡ Some q →
+      attempt needed rule 16 (tree_root false rank a) ≡ Some i → attempt needed rule 16 (tree_root true rank e) ≡ Some j →
       (is_true (value_in p 0) && is_true (value_in q 0)) ≡ r.matched → rank_of (value_in i 0) ≡ r.first_rank → rank_of (value_in j 0) ≡ r.second_rank → Holds r
   holds r p q i j f g d o v l x y z w k m n = record {
     first_ad = a;

@@ -2,7 +2,7 @@
 use Prim.Native.Nat.{ℕ, zero, suc, ◌+◌, ◌≤◌, ◌<◌}
 use Rattle.std.proofs.Common.{arith, sym, ◌∙◌, inl, inr, take_all}
 use Rattle.std.proofs.Math.Decide.{dec_lt}
-use Rattle.std.specs.Prelude.{◌≡◌, Bool, true, ◌&&◌, length}
+use Rattle.std.specs.Prelude.{◌≡◌, Bool, true, ◌&&◌, Some, length}
 use Rattle.std.proofs.Math.Path.{refl, ap, ap₂, subst, fun_ext}
 use Rattle.std.proofs.Math.Bool.{false, cond}
 use mathlib.Core.List.{List, [], ◌∷◌, ◌++◌, map}
@@ -32,7 +32,7 @@ use Rattle.matching.specs.declared.Outcome.TheVariants.{Finished}
 use Rattle.slots.specs.declared.Slot.TheVariants.{Held}
 use Rattle.slots.specs.Packed.{slot_at}
 use Rattle.worked.specs.Table.{Gift, Row, Given, InSlots, Comes}
-use Rattle.worked.proofs.Laws.Solving.{given, attempt, attempted, list, among, among_in, enters, entered_by}
+use Rattle.worked.proofs.Laws.Solving.{attempt, attempted, among, among_in, enters, entered_by}
 use Rattle.worked.proofs.Laws.Circles.{cond_both, either, returns, enough, returns_path, path_returns}
 
 -- ---- links and roots by the trees: nothing is counted or looked up in words
@@ -163,7 +163,7 @@ module _ {a a' : Ad} (s : StoredAd (stored_words a) (stored_bytes a) a) (s' : St
   worth_given (cons {us = us} d e) = present (us, d, refl)
 
   module _ (c : ℕ → Bool) (fl : Flags G c) (f : ℕ) where
-    worth_tried : {b : Ad} → StoredAd (stored_words b) (stored_bytes b) b → (second : Bool) (name : List ℕ) {us : List Value} → attempt (need c) rule f (tree_root second name b) ≡ given us →
+    worth_tried : {b : Ad} → StoredAd (stored_words b) (stored_bytes b) b → (second : Bool) (name : List ℕ) {us : List Value} → attempt (need c) rule f (tree_root second name b) ≡ Some us →
         Worth (needs G c) rule (roots_of second (stored_words b) (stored_bytes b) name) (value_in us 0)
     worth_tried {b} t second name {us} e =
         subst (λ (l : List ℕ). Worth (needs G c) rule l (value_in us 0)) (sym (root_is t second name))
@@ -172,7 +172,7 @@ module _ {a a' : Ad} (s : StoredAd (stored_words a) (stored_bytes a) a) (s' : St
     -- each definition is tried
     unfoldable pub Tries : List Gift → Type 0
     Tries [] = Unit {0}
-    Tries (g ∷ gs) = (attempt (need c) rule f (tree_root false g.name a) ≡ given (g.value ∷ [])) × Tries gs
+    Tries (g ∷ gs) = (attempt (need c) rule f (tree_root false g.name a) ≡ Some (g.value ∷ [])) × Tries gs
 
     tries_given : (gs : List Gift) → Tries gs → Given (needs G c) (stored_words a) (stored_bytes a) (stored_words a') (stored_bytes a') gs
     unfolding Given Tries value_in
@@ -190,13 +190,13 @@ module _ {a a' : Ad} (s : StoredAd (stored_words a) (stored_bytes a) a) (s' : St
       pub second_requirement : List Value
       pub first_rank : List Value
       pub second_rank : List Value
-      pub order_is : enters (need c) f [] (tree_roots a a') ≡ list r.order
+      pub order_is : enters (need c) f [] (tree_roots a a') ≡ Some r.order
       pub gives : Tries r.gives
       pub listed : Lists r.order r.gives
-      pub first_required : attempt (need c) rule f (tree_root false requirements a) ≡ given first_requirement
-      pub second_required : attempt (need c) rule f (tree_root true requirements a') ≡ given second_requirement
-      pub first_ranked : attempt (need c) rule f (tree_root false rank a) ≡ given first_rank
-      pub second_ranked : attempt (need c) rule f (tree_root true rank a') ≡ given second_rank
+      pub first_required : attempt (need c) rule f (tree_root false requirements a) ≡ Some first_requirement
+      pub second_required : attempt (need c) rule f (tree_root true requirements a') ≡ Some second_requirement
+      pub first_ranked : attempt (need c) rule f (tree_root false rank a) ≡ Some first_rank
+      pub second_ranked : attempt (need c) rule f (tree_root true rank a') ≡ Some second_rank
       pub matched_is : (is_true (value_in first_requirement 0) && is_true (value_in second_requirement 0)) ≡ r.matched
       pub first_rank_is : rank_of (value_in first_rank 0) ≡ r.first_rank
       pub second_rank_is : rank_of (value_in second_rank 0) ≡ r.second_rank
@@ -213,7 +213,7 @@ module _ {a a' : Ad} (s : StoredAd (stored_words a) (stored_bytes a) a) (s' : St
           (subst (λ (l : List ℕ). Entered (needs G c) [] l r.order) (sym roots_are)
           (subst (λ (n : ℕ → List ℕ). Entered n [] (tree_roots a a') r.order) (sym (needs_are c)) (entered_by (need c) f (tree_roots a a') r.order k.order_is))))
 
-      value_is : {b : Ad} → StoredAd (stored_words b) (stored_bytes b) b → (second : Bool) (name : List ℕ) {us : List Value} {u : Value} → attempt (need c) rule f (tree_root second name b) ≡ given us →
+      value_is : {b : Ad} → StoredAd (stored_words b) (stored_bytes b) b → (second : Bool) (name : List ℕ) {us : List Value} {u : Value} → attempt (need c) rule f (tree_root second name b) ≡ Some us →
           Worth (needs G m.circular) rule (roots_of second (stored_words b) (stored_bytes b) name) u → u ≡ value_in us 0
       value_is {b} t second name {us} e w =
           worth_unique w (subst (λ (d : ℕ → Bool). Worth (needs G d) rule (roots_of second (stored_words b) (stored_bytes b) name) (value_in us 0)) same (worth_tried t second name e))
@@ -221,7 +221,7 @@ module _ {a a' : Ad} (s : StoredAd (stored_words a) (stored_bytes a) a) (s' : St
       slot_at_lem : length r.order ≤ budget → (x : ℕ) → x ∈ r.order → (u : Value) × Gives (needs G m.circular) rule x u × (slot_at table x ≡ Held u)
       slot_at_lem h x n = m.ran.holds x (subst (λ (l : List ℕ). x ∈ l) (sym orders ∙ sym (take_all budget m.order (let e = ap length orders in omega arith))) n)
 
-      slot_of : length r.order ≤ budget → (g : Gift) → attempt (need c) rule f (tree_root false g.name a) ≡ given (g.value ∷ []) →
+      slot_of : length r.order ≤ budget → (g : Gift) → attempt (need c) rule f (tree_root false g.name a) ≡ Some (g.value ∷ []) →
           (x : ℕ) × (tree_root false g.name a ≡ x ∷ []) × (among x r.order ≡ true) →
           (x : ℕ) × (roots_of false (stored_words a) (stored_bytes a) g.name ≡ x ∷ []) × (slot_at table x ≡ Held g.value)
       unfolding value_in
