@@ -1,13 +1,13 @@
 -- The graph of two stored ads is the graph of their trees. Assumes nothing.
-use Rattle.std.specs.Prelude.{ℕ, zero, suc, ◌+◌, ◌-◌, ◌≤◌, ◌<◌, ◌≡◌, refl, ◌≢◌, Bool, true, ◌&&◌, ◌||◌, length, ltb}
+use Rattle.std.specs.Prelude.{ℕ, ◌+◌, ◌-◌, ◌≤◌, ◌<◌, ◌≡◌, refl, ◌≢◌, Bool, true, ◌&&◌, ◌||◌, length, ltb}
 use native.Mathlib.Omega.{arith}
 use Rattle.std.proofs.Math.Decide.{dec_lt}
 use Rattle.std.proofs.Math.Path.{sym, ap}
 use Rattle.std.proofs.Common.{ap₂, ◌∙◌}
 use Rattle.std.proofs.Math.Bool.{false, cond}
-use mathlib.Core.List.{List, [], ◌∷◌, ◌++◌, map}
+use mathlib.Core.List.{List, [], ◌++◌, map}
 use Rattle.std.proofs.Math.ListN.{get_or, get_or-eq_default}
-use Rattle.std.proofs.lemmas.List.{length-map}
+use Rattle.std.proofs.lemmas.List.{length-map, get_or-map}
 use borrow.Author.Tests.{le-ltb, lt-ltb, ne_eqb}
 use Rattle.syntax.specs.Bounds.{max_nodes}
 use Rattle.syntax.specs.Tree.{Literal, undefined, error, boolean, integer, real, string, own, other, Ad, nodes}
@@ -27,9 +27,7 @@ use Rattle.trees.proofs.Laws.Stored.{length_in, stored_node, said_name}
 -- ---- a list by its index
 
 pub map_at : {A B : Type 0} (f : A → B) (l : List A) (i : ℕ) (d : A) (e : B) → i < length l → get_or (map f l) i e ≡ f (get_or l i d)
-map_at f [] i d e h = absurd (let q : ⊥ = omega arith in q)
-map_at f (x ∷ l) zero d e h = refl
-map_at f (x ∷ l) (suc i) d e h = map_at f l i d e (omega arith)
+map_at = get_or-map
 
 map_out : {A B : Type 0} (f : A → B) (l : List A) (i : ℕ) (e : B) → length l ≤ i → get_or (map f l) i e ≡ e
 map_out f l i e h = get_or-eq_default (map f l) e (rw (length-map l f) h)

@@ -130,13 +130,13 @@ module _ (need : ℕ → List ℕ) where
         case true e = fine_again x l xs (go l xs) (among_in x l e) (h l xs)
         case false e = behind_fine l x xs (go l (need x)) (among_out x l e) (h l (need x))
 
-  none_fine : (l xs : List ℕ) → Fine l xs None
+  lost_fine : (l xs : List ℕ) → Fine l xs None
   unfolding Fine
-  none_fine l xs = tt
+  lost_fine l xs = tt
 
   enters_fine : (f : ℕ) (l xs : List ℕ) → Fine l xs (enters f l xs)
   unfolding enters
-  enters_fine zero l xs = enter_fine (λ l xs. None) none_fine l xs
+  enters_fine zero l xs = enter_fine (λ l xs. None) lost_fine l xs
   enters_fine (suc f) l xs = enter_fine (enters f) (enters_fine f) l xs
 
   pub entered_by : (f : ℕ) (xs l : List ℕ) → enters f [] xs ≡ Some l → Entered need [] xs l

@@ -33,7 +33,7 @@ use Rattle.slots.specs.declared.Slot.TheVariants.{Held}
 use Rattle.slots.specs.Packed.{slot_at}
 use Rattle.worked.specs.Table.{Gift, Row, Given, InSlots, Comes}
 use Rattle.worked.proofs.Laws.Solving.{attempt, attempted, among, among_in, enters, entered_by}
-use Rattle.worked.proofs.Laws.Circles.{either, returns, enough, returns_path, path_returns}
+use Rattle.worked.proofs.Laws.Circles.{cond_both, either, returns, enough, returns_path, path_returns}
 
 -- ---- links and roots by the trees: nothing is counted or looked up in words
 
@@ -125,13 +125,13 @@ module _ {a a' : Ad} (s : StoredAd (stored_words a) (stored_bytes a) a) (s' : St
   -- so far as was tried, of all nodes
   unfoldable pub all_tried : List ℕ → Bool
   all_tried [] = true
-  all_tried (x ∷ xs) = enough (tree_links a a') x && all_tried xs
+  all_tried (x ∷ xs) = cond (enough (tree_links a a') x) (all_tried xs) false
 
   tried : (xs : List ℕ) → all_tried xs ≡ true → (x : ℕ) → x ∈ xs → enough (tree_links a a') x ≡ true
   unfolding all_tried
   tried [] e x m = absurd (mem_nil m)
   tried (y ∷ xs) e x m =
-      let d = halves (enough (tree_links a a') y) (all_tried xs) e in
+      let d = cond_both (enough (tree_links a a') y) (all_tried xs) e in
       either (λ q. subst (λ (u : ℕ). enough (tree_links a a') u ≡ true) (sym q) d.0) (λ k. tried xs d.1 x k) (mem_cons m)
 
   -- the circular references are those found
