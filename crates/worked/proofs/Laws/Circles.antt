@@ -1,14 +1,18 @@
 -- Which nodes of a small graph lead back to themselves, found by trying. Assumes nothing.
 use Prim.Native.Nat.{ℕ, zero, suc}
-use Rattle.std.specs.Prelude.{◌≡◌, refl, ◌⊎◌, Bool, true, false, cond, ◌&&◌}
+use Rattle.std.specs.Prelude.{◌≡◌, refl, ◌⊎◌, Bool, true, false, cond}
 use Rattle.std.proofs.Common.{sym, subst, inl, inr}
+use Rattle.std.proofs.lemmas.Bool.{false≢true}
 use mathlib.Core.List.{List, [], ◌∷◌, ◌++◌}
-use Rattle.text.specs.Laws.Booleans.{both as halves}
 use Rattle.graph.proofs.Laws.DepthFirst.{path_snoc}
 use Rattle.graph.specs.Members.{◌∈◌, here, there, Each}
 use Rattle.graph.proofs.Laws.Members.{mem_nil, mem_cons, mem_append}
 use Rattle.graph.specs.Graph.{Path⁺, one, more}
 use Rattle.worked.proofs.Laws.Solving.{among, among_in, among_out}
+
+pub cond_both : (a b : Bool) → cond a b false ≡ true → (a ≡ true) × (b ≡ true)
+cond_both true b e = (refl, e)
+cond_both false b e = absurd (false≢true e)
 
 pub either : {x z : ℕ} {xs : List ℕ} {P : Type 0} → (z ≡ x → P) → (z ∈ xs → P) → (z ≡ x) ⊎ (z ∈ xs) → P
 either f g (inl q) = f q
@@ -24,25 +28,25 @@ module _ (go : ℕ → List ℕ) where
   -- each of xs is among ys
   unfoldable pub within : List ℕ → List ℕ → Bool
   within [] ys = true
-  within (x ∷ xs) ys = among x ys && within xs ys
+  within (x ∷ xs) ys = cond (among x ys) (within xs ys) false
 
   -- each of xs leads to ys only
   unfoldable pub closed_in : List ℕ → List ℕ → Bool
   closed_in [] ys = true
-  closed_in (x ∷ xs) ys = within (go x) ys && closed_in xs ys
+  closed_in (x ∷ xs) ys = cond (within (go x) ys) (closed_in xs ys) false
 
   within_in : (xs ys : List ℕ) → within xs ys ≡ true → (z : ℕ) → z ∈ xs → z ∈ ys
   unfolding within
   within_in [] ys e z m = absurd (mem_nil m)
   within_in (x ∷ xs) ys e z m =
-      let d = halves (among x ys) (within xs ys) e in
+      let d = cond_both (among x ys) (within xs ys) e in
       either (λ q. rw q (among_in x ys d.0)) (λ k. within_in xs ys d.1 z k) (mem_cons m)
 
   closed_in_lem : (xs ys : List ℕ) → closed_in xs ys ≡ true → (y z : ℕ) → y ∈ xs → z ∈ go y → z ∈ ys
   unfolding closed_in
   closed_in_lem [] ys e y z m k = absurd (mem_nil m)
   closed_in_lem (x ∷ xs) ys e y z m k =
-      let d = halves (within (go x) ys) (closed_in xs ys) e in
+      let d = cond_both (within (go x) ys) (closed_in xs ys) e in
       either (λ q. within_in (go x) ys d.0 z (subst (λ (u : ℕ). z ∈ go u) q k)) (λ n. closed_in_lem xs ys d.1 y z n k) (mem_cons m)
 
   -- a path from within a closed list stays there
@@ -84,7 +88,7 @@ module _ (go : ℕ → List ℕ) where
 
   -- and 64 are enough
   abbrev pub enough : ℕ → Bool
-  enough x = within (go x) (reached 64 (go x) []) && closed_in (reached 64 (go x) []) (reached 64 (go x) [])
+  enough x = cond (within (go x) (reached 64 (go x) [])) (closed_in (reached 64 (go x) []) (reached 64 (go x) [])) false
 
   pub returns_path : (x : ℕ) → returns x ≡ true → Path⁺ go x x
   returns_path x e = reached_led x 64 (go x) [] (λ z m. one m) (λ z m. absurd (mem_nil m)) x (among_in x _ e)
@@ -93,7 +97,7 @@ module _ (go : ℕ → List ℕ) where
   path_returns x e p = case (returns x) refl
     where
       both : (within (go x) (reached 64 (go x) []) ≡ true) × (closed_in (reached 64 (go x) []) (reached 64 (go x) []) ≡ true)
-      both = halves _ _ e
+      both = cond_both _ _ e
 
       case : (b : Bool) → returns x ≡ b → b ≡ true
       case true q = refl
