@@ -14,7 +14,12 @@ fn check_numbers(answer: Option<Checked>) -> [u64; 4]
     match answer {
         Some(checked) => {
             let counts = checked.counts;
-            [0, counts.definitions as u64, counts.nodes as u64, checked.print_length as u64]
+            [
+                0,
+                counts.definitions as u64,
+                counts.nodes as u64,
+                checked.print_length as u64,
+            ]
         }
         None => [10, 0, 0, 0],
     }

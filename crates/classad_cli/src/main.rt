@@ -85,8 +85,14 @@ fn pair_texts(out: &mut Output, task: Task, first_text: &[u8], second_text: &[u8
     told(out, 3, second_text, y);
     if x.is_ok() && y.is_ok() {
         let ads = TwoAds {
-            first: StoredAd { words: &first, bytes: &first_bytes },
-            second: StoredAd { words: &second, bytes: &second_bytes },
+            first: StoredAd {
+                words: &first,
+                bytes: &first_bytes,
+            },
+            second: StoredAd {
+                words: &second,
+                bytes: &second_bytes,
+            },
         };
         do_task(out, task, ads);
     }
@@ -113,10 +119,24 @@ fn main(rt: HostRuntime) {
         Request::Check(count) => cli_ads::check_files(&rt, &mut out, count),
         Request::Print => cli_ads::print_file(&rt, &mut out),
         Request::Match(budget) => {
-            pair_files(&rt, &mut out, Task::Match { trace: false, budget })
+            pair_files(
+                &rt,
+                &mut out,
+                Task::Match {
+                    trace: false,
+                    budget,
+                },
+            )
         }
         Request::Trace(budget) => {
-            pair_files(&rt, &mut out, Task::Match { trace: true, budget })
+            pair_files(
+                &rt,
+                &mut out,
+                Task::Match {
+                    trace: true,
+                    budget,
+                },
+            )
         }
         Request::Graph => pair_files(&rt, &mut out, Task::Graph),
         Request::Help => out.usage(),

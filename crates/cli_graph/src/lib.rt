@@ -92,7 +92,14 @@ fn found(out: &mut Output, reference: Reference<'_>, circular: bool) {
 }
 
 // A reference, node i of an ad; `far` says in which ad its name is looked up.
-fn draw_reference(out: &mut Output, second: bool, ads: TwoAds<'_>, i: usize, far: bool, circular: bool)
+fn draw_reference(
+    out: &mut Output,
+    second: bool,
+    ads: TwoAds<'_>,
+    i: usize,
+    far: bool,
+    circular: bool,
+)
     requires { i < max_nodes }
 {
     let ad = ads.ad(second);

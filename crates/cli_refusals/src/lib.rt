@@ -40,7 +40,10 @@ fn flaw_of(rest: &[u8]) -> Flaw {
 
 // Whether a point and a digit follow the digits in front.
 fn is_real(rest: &[u8]) -> bool {
-    let digits = rest.iter().position(|&b| !text::is_digit(b)).unwrap_or(rest.len());
+    let digits = rest
+        .iter()
+        .position(|&b| !text::is_digit(b))
+        .unwrap_or(rest.len());
     matches!(&rest[digits..], [b'.', b'0'..=b'9', ..])
 }
 
@@ -72,7 +75,8 @@ fn phrase(text: &[u8], rest: &[u8], refusal: Refusal) -> &'static [u8] {
         Reason::TokenTooLong => b"name over 64 bytes\n",
         Reason::DefinedTwice => b"name defined twice\n",
         // Only a definition begins behind a semicolon.
-        Reason::TooMany if byte_before(text, refusal.place) == Some(b';') => b"over 256 definitions\n",
+        Reason::TooMany if byte_before(text, refusal.place) == Some(b';') =>
+            b"over 256 definitions\n",
         Reason::TooMany => b"over 1,024 nodes\n",
         Reason::NotWellFormed => b"stored ad is not well formed\n",
         _ => b"printed text over 16,384 bytes\n",
@@ -101,7 +105,11 @@ fn caret(out: &mut Output, text: &[u8], place: usize, column: usize) {
     let before = column.saturating_sub(1);
     let rest = parts::cut(text, place.saturating_sub(before), text.len());
     let mut line = [0u8; 16385];
-    let n = rest.iter().position(|&b| b == b'\n').unwrap_or(rest.len()).min(line.len());
+    let n = rest
+        .iter()
+        .position(|&b| b == b'\n')
+        .unwrap_or(rest.len())
+        .min(line.len());
     for i in 0..n {
         line[i] = shown_byte(rest[i]);
     }

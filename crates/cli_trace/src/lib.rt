@@ -7,7 +7,9 @@ use cli_stored::TwoAds;
 
 // How many entries the list has: 0 is none.
 pub fn entry_count(list: &[u64]) -> usize {
-    list.iter().position(|&entry| entry == 0).unwrap_or(list.len())
+    list.iter()
+        .position(|&entry| entry == 0)
+        .unwrap_or(list.len())
 }
 
 // The definition that a node belongs to, and its expression.

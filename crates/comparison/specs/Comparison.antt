@@ -1,10 +1,10 @@
 -- The six comparisons. Assumes nothing.
-use Rattle.std.specs.Prelude.{ℕ, Bool, true, false, not, cond, ◌&&◌, ◌||◌, List, [], ◌∷◌, eqb, Float}
+use Rattle.std.specs.Prelude.{ℕ, Bool, not, cond, ◌&&◌, ◌||◌, List, [], ◌∷◌, eqb, Float}
 use Rattle.std.specs.Float.Ieee as Ieee
 use Rattle.integers.specs.Integers.{width, less_than}
 use Rattle.text.specs.Strings.{string_order}
+use Rattle.std.specs.Ordering.{is_eq, is_ne, is_lt, is_le, is_gt, is_ge}
 use Rattle.std.specs.declared.cmp.Ordering.{Ordering}
-use Rattle.std.specs.declared.cmp.Ordering.TheVariants as order
 use Rattle.values.specs.declared.Value.{Value}
 use Rattle.values.specs.declared.Value.TheVariants.{Boolean}
 use Rattle.values.specs.Values.{kinds, bytes_at}
@@ -30,20 +30,14 @@ reals_compare AtMost x y = Ieee.le x y
 reals_compare Above x y = Ieee.lt y x
 reals_compare AtLeast x y = Ieee.le y x
 
--- what holds where the first string is less, equal or greater
-abbrev pub by_order : Bool → Bool → Bool → Ordering → Bool
-by_order l e g order.Less = l
-by_order l e g order.Equal = e
-by_order l e g order.Greater = g
-
 -- 'Strings compare by bytes after ASCII lower case; a proper beginning is smaller.'
 abbrev pub order_holds : Comparison → Ordering → Bool
-order_holds Equal = by_order false true false
-order_holds NotEqual = by_order true false true
-order_holds Below = by_order true false false
-order_holds AtMost = by_order true true false
-order_holds Above = by_order false false true
-order_holds AtLeast = by_order false true true
+order_holds Equal = is_eq
+order_holds NotEqual = is_ne
+order_holds Below = is_lt
+order_holds AtMost = is_le
+order_holds Above = is_gt
+order_holds AtLeast = is_ge
 
 -- the bytes of a String; of no other value are they asked
 abbrev pub bytes_of : List ℕ → List ℕ → Value → List ℕ

@@ -4,7 +4,7 @@ use Rattle.std.specs.Bool.{beq}
 use Rattle.std.specs.Float.Ieee as Ieee
 use Rattle.text.specs.Strings.{same_bytes}
 use Rattle.values.specs.declared.Value.{Value}
-use Rattle.values.specs.declared.Value.TheVariants.{Undefined, Error, Boolean, Integer, Real, String}
+use Rattle.values.specs.declared.Value.TheVariants.{Boolean}
 use Rattle.values.specs.Values.{kinds, bytes_at}
 
 -- '`is`: same kind and same value': what is the same as Undefined
@@ -33,12 +33,7 @@ same_string first second s = kinds false false (λ x. false) (λ x. false) (λ x
 
 -- '`is`: same kind and same value; Strings byte for byte; Reals numerically ..'
 abbrev pub same_value : List ℕ → List ℕ → Value → Value → Bool
-same_value first second Undefined = same_undefined
-same_value first second Error = same_error
-same_value first second (Boolean x) = same_boolean x
-same_value first second (Integer x) = same_integer x
-same_value first second (Real x) = same_real x
-same_value first second (String side offset length) = same_string first second (bytes_at first second side offset length)
+same_value first second = kinds same_undefined same_error same_boolean same_integer same_real (λ side offset length. same_string first second (bytes_at first second side offset length))
 
 -- 'Never Undefined or Error.'
 abbrev pub is_value : List ℕ → List ℕ → Value → Value → Value

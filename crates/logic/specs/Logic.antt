@@ -17,26 +17,18 @@ row f u t o U = u
 row f u t o T = t
 row f u t o O = o
 
--- F, as a value
-abbrev no : Value
-no = Boolean false
-
--- T, as a value
-abbrev yes : Value
-yes = Boolean true
-
 -- '`&&`: F row F F F F; U row F U U E; T row F U T E; O row E E E E.'
 abbrev pub and_table : Truth → Truth → Value
-and_table F = row no no no no
-and_table U = row no Undefined Undefined Error
-and_table T = row no Undefined yes Error
+and_table F = row (Boolean false) (Boolean false) (Boolean false) (Boolean false)
+and_table U = row (Boolean false) Undefined Undefined Error
+and_table T = row (Boolean false) Undefined (Boolean true) Error
 and_table O = row Error Error Error Error
 
 -- '`||`: F row F U T E; U row U U T E; T row T T T T; O row E E E E.'
 abbrev pub or_table : Truth → Truth → Value
-or_table F = row no Undefined yes Error
-or_table U = row Undefined Undefined yes Error
-or_table T = row yes yes yes yes
+or_table F = row (Boolean false) Undefined (Boolean true) Error
+or_table U = row Undefined Undefined (Boolean true) Error
+or_table T = row (Boolean true) (Boolean true) (Boolean true) (Boolean true)
 or_table O = row Error Error Error Error
 
 -- `&&` of two values, by its table: 'Tables (F, U, T, and O for anything else). `&&`: ..'
@@ -49,7 +41,7 @@ or_value a b = or_table (truth_of a) (truth_of b)
 
 -- '`!`: T, U, F, E.'
 abbrev pub not_value : Value → Value
-not_value a = row yes Undefined no Error (truth_of a)
+not_value a = row (Boolean true) Undefined (Boolean false) Error (truth_of a)
 
 -- '`?:`: F third operand, U Undefined, T second, O Error.'
 abbrev pub conditional_value : Value → Value → Value → Value

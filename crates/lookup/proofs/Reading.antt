@@ -6,8 +6,7 @@ use mathlib.Core.List.{List, [], ◌∷◌, map}
 use Prim.Native.Nat.{ℕ, suc, ◌+◌, ◌-◌, ◌≤◌, ◌<◌}
 use native.Mathlib.Numerals.{add-one}
 use native.Mathlib.Omega.{arith}
-use lib.ListN.{length, get_or, set}
-use lib.Seq.{get_or-set_other}
+use lib.ListN.{length}
 use Rattle.text.specs.Strings.{same_name}
 use Rattle.syntax.specs.Bounds.{max_definitions}
 use Rattle.graph.specs.Transition.{marked}
@@ -15,14 +14,11 @@ use Rattle.ad.specs.Stored.{length_at, offset_at, root_at, bytes_at, definition_
 use Rattle.names.specs.Inner.Fingerprint.{fingerprint_of}
 use Rattle.names.specs.Laws.Matching.{other_fingerprint}
 use Rattle.links.specs.Pair.{numbered}
-use Rattle.links.specs.Inner.Asked.{print_at, Measured, Fingerprints}
+use Rattle.links.specs.Inner.Asked.{Measured, Fingerprints}
 use Rattle.links.specs.Inner.Filling.{Filled}
 use Rattle.links.specs.Laws.Counting.{nodes_few}
 
 -- ---- fingerprints
-
-    keep : (i : ℕ) → ((m : ℕ) → m < j + 1 → i ≢ print_at second m) → get_or (set l at a) i 0 ≡ get_or l₀ i 0
-    keep i k = get_or-set_other l at i a 0 (λ z. k j (omega arith) (z ∙ e)) ∙ f.kept i (λ m r. k m (omega arith))
 
 -- the fingerprints of both ads
 pub prints_both : {v b w c l₀ l₁ l₂ : List ℕ} {d e : ℕ} → d ≡ definition_count v → e ≡ definition_count w → d ≤ max_definitions → max_definitions + max_definitions ≤ length l₂ →

@@ -24,14 +24,10 @@ pub record Orders (v b w c flags list : List ℕ) (count len : ℕ) : Type 0 whe
   pub listed : list ≡ map suc order ++ replicate (2048 - length order) 0
   pub counted : Counted (pair_graph v b w c) count
 
--- an answer that tells what such a traversal counted: 'its result carrying a count'
-abbrev pub OrdersBy : (v b w c flags list : List ℕ) → Order → Type 0
-OrdersBy v b w c flags list r = Orders v b w c flags list r.transitions r.length
-
 -- THE CONTRACT OF `order_ads`, over any memory, with 2,048 flags and 2,048 entries. It refuses as a match does, with 'all unchanged'; and
 -- 'Memory lent beyond these sizes is never changed.'
 pub data Ordered (v b w c flags list flags' list' : List ℕ) (r : Result Order Refusal) : Type 0 where
   refused : {k : ℕ} → Refuses v b w c (length flags) pair_slots (length list) k → r ≡ Err (refusal k 0) → flags' ≡ flags → list' ≡ list → Ordered v b w c flags list flags' list' r
   orders : {o : Order} → Admits v b w c (length flags) pair_slots (length list) → r ≡ Ok o → (marks entries : List ℕ) →
-      OrdersBy (take ad_words v) (take ad_bytes_room b) (take ad_words w) (take ad_bytes_room c) marks entries o →
+      Orders (take ad_words v) (take ad_bytes_room b) (take ad_words w) (take ad_bytes_room c) marks entries o.transitions o.length →
       flags' ≡ marks ++ drop pair_slots flags → list' ≡ entries ++ drop pair_slots list → Ordered v b w c flags list flags' list' r

@@ -3,7 +3,7 @@
 
 ghost use Rattle.std.specs.Prelude.{◌≡◌, length};
 ghost use Rattle.links.specs.Pair.{pair_slots};
-ghost use Rattle.ordering.specs.Ordering.{OrdersBy, Ordered};
+ghost use Rattle.ordering.specs.Ordering.{Orders, Ordered};
 
 use links::AdPair;
 use syntax::Refusal;
@@ -18,7 +18,7 @@ pub struct Order {
 // Of two well-formed ads, in rooms of exactly that size.
 fn order_formed(ads: AdPair<'_>, flags: &mut [usize], list: &mut [u64]) -> Order
     requires { (length flags.old ≡ pair_slots) × (length list.old ≡ pair_slots) }
-    ensures { OrdersBy ads.entry.first.ad.words.now ads.entry.first.ad.bytes.now ads.entry.second.ad.words.now ads.entry.second.ad.bytes.now flags.new list.new result }
+    ensures { Orders ads.entry.first.ad.words.now ads.entry.first.ad.bytes.now ads.entry.second.ad.words.now ads.entry.second.ad.bytes.now flags.new list.new result.transitions result.length }
 {
     flags.fill(0);
     list.fill(0);

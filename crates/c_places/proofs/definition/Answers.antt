@@ -5,8 +5,10 @@ use Rattle.c_places.specs.Inspecting.{holder_numbers}
 use Rattle.c_places.proofs.definition.Goals as goal
 
 pub invariant_of-ad : goal.invariant_of-ad
-invariant_of-ad c = record { room = (holder_inside c.args.words.now c.args.node c.in-Some.j
-    (sym c.definition_of.ensures ∙ c.in-Some.is)).1 }
+invariant_of-ad c = record {
+  room = (holder_inside c.args.words.now c.args.node c.in-Some.j
+      (sym c.definition_of.ensures ∙ c.in-Some.is)).1;
+}
 
 pub offset-requires : goal.offset-requires
 offset-requires c = (holder_inside c.args.words.now c.args.node c.in-Some.j

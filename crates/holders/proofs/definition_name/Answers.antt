@@ -5,8 +5,10 @@ use Rattle.holders.proofs.Holders.{holder_inside}
 use Rattle.holders.proofs.definition_name.Goals as goal
 
 pub invariant_of-ad : goal.invariant_of-ad
-invariant_of-ad c = record { room = (holder_inside c.args.words.now c.args.node c.in-Some.j
-    (sym c.definition_of.ensures ∙ c.in-Some.is)).1 }
+invariant_of-ad c = record {
+  room = (holder_inside c.args.words.now c.args.node c.in-Some.j
+      (sym c.definition_of.ensures ∙ c.in-Some.is)).1;
+}
 
 pub offset-requires : goal.offset-requires
 offset-requires c = (holder_inside c.args.words.now c.args.node c.in-Some.j

@@ -6,8 +6,7 @@ use Rattle.leaves.proofs.name_leaf.Goals as goal
 pub returns : goal.returns
 returns c =
     let l = length-slice c.args.name.start c.args.name.end c.args.text.now c.requires.high in
-    let b = copied c.args.bytes.now c.args.text.now c.copy_from_slice.new.self c.args.from.bytes c.args.name.start c.args.name.end (omega arith) c.requires.high (omega arith) c.copy_from_slice.ensures.after in
-    (
+    let b = copied c.args.bytes.now c.args.text.now c.copy_from_slice.new.self c.args.from.bytes c.args.name.start c.args.name.end (omega arith) c.requires.high (omega arith) c.copy_from_slice.ensures.after in (
       c.in_ok-room.ensures,
       refl,
       refl,

@@ -25,4 +25,4 @@ returns c =
     c.traverse-t.ensures.traversed c.requires.room.1 c.run-steps.ensures r.first_requirements r.second_requirements r.first_rank r.second_rank
     (omega arith) c.traverse-t.ensures.roots (λ h. absurd (omega arith))
     (λ h i. Finished (c.conclude-answer.ensures.verdict i) (c.conclude-answer.ensures.ranks.0 i) (c.conclude-answer.ensures.ranks.1 i)
-      c.run-steps.result c.traverse-t.result.count)
+    c.run-steps.result c.traverse-t.result.count)

@@ -1,5 +1,5 @@
 -- The tokens of a printed ad, in the style 'the text from here is l': places show nowhere. Assumes nothing.
-use Rattle.std.specs.Prelude.{ℕ, suc, ◌+◌, ◌-◌, ◌/◌, ◌^◌, ◌≤◌, ◌<◌, ◌≡◌, Bool, true, ◌&&◌, ltb, leb, eqb}
+use Rattle.std.specs.Prelude.{ℕ, suc, ◌+◌, ◌-◌, ◌/◌, ◌^◌, ◌≤◌, ◌≡◌, Bool, true, ◌&&◌, ltb, leb, eqb}
 use Prim.Native.Char.{code}
 use Rattle.std.proofs.Common.{arith, sym, ◌∙◌, subst, true≢false, leb-true, ne_eqb, le-ltb}
 use Rattle.std.proofs.Math.Path.{refl, ap}
