@@ -2,7 +2,7 @@
 use Rattle.std.specs.Prelude.{ℕ, zero, suc, ◌+◌, ◌-◌, ◌≤◌, ◌<◌, ◌≡◌, refl, List, [], ◌∷◌, ◌++◌, length, get_or, take, drop, set}
 use Rattle.std.proofs.Common.{arith, add-zero, add-suc, suc-add, add-one, sym, ◌∙◌, ap, length-take, drop_of_length-le, drop-cons, drop-drop, take-suc}
 use Rattle.std.proofs.lemmas.List.Edits.{sets}
-use Rattle.std.proofs.Math.Seq.{slice, take-nil}
+use Rattle.std.proofs.Math.Seq.{slice, slice-cons, take-nil}
 use Rattle.std.proofs.lemmas.List.{drop-append-le}
 
 -- the byte at i, and those behind it
@@ -16,6 +16,10 @@ slice_back s f t h = let e : length (take t s) ≤ f = omega (arith, length-take
 -- a part one byte longer: for the runs of 'letters, digits, `_`' and 'Longest token wins.'
 pub slice_snoc : (s : List ℕ) (f i : ℕ) → f ≤ i → i < length s → slice f (i + 1) s ≡ slice f i s ++ (get_or s i 0 ∷ [])
 slice_snoc s f i h h' = rw (add-one i, take-suc s i 0 h') (drop-append-le f (take i s) (get_or s i 0 ∷ []) (omega (arith, length-take i s)))
+
+-- a part by its first byte
+pub slice_one : (s : List ℕ) (i q : ℕ) → i < q → q ≤ length s → slice i q s ≡ get_or s i 0 ∷ slice (i + 1) q s
+slice_one s i q h h' = rw (add-one i) (slice-cons i q s 0 h h')
 
 -- behind the part from p up to q stands what is behind q
 pub drop_behind : (s : List ℕ) (p q : ℕ) → p ≤ q → drop (q - p) (drop p s) ≡ drop q s

@@ -1,6 +1,10 @@
 -- Two ads are refused in one way, or admitted. Assumes nothing.
-use Rattle.std.specs.Prelude.{ℕ, ◌≡◌, refl, List}
-use Rattle.std.proofs.Common.{sym, ◌∙◌, true≢false}
+use Rattle.std.specs.Prelude.{ℕ, ◌≡◌, refl, Result, Ok, Err, List}
+use Rattle.std.proofs.Common.{sym, ◌∙◌, subst, true≢false}
+use Rattle.syntax.specs.Refusals.{number_of}
+use Rattle.syntax.specs.declared.Reason.{Reason}
+use Rattle.links.specs.declared.pair.AdPair.{AdPair}
+use Rattle.admission.specs.Inner.Admitting.{AdmitsWith, Admitting}
 use Rattle.admission.specs.Admission.{Refuses, no_room, first_malformed, second_malformed, Admits}
 
 module _ {v b w c : List ℕ} {lent room entries : ℕ} where
@@ -19,3 +23,10 @@ module _ {v b w c : List ℕ} {lent room entries : ℕ} where
   refused_not_admitted (no_room e) a = true≢false (sym e ∙ a.roomy)
   refused_not_admitted (first_malformed e n) a = n a.first_well
   refused_not_admitted (second_malformed e h n) a = n a.second_well
+
+  -- what an answer says
+  pub refusal_told : {r : Result AdPair Reason} {k : Reason} → Admitting v b w c lent room entries r → r ≡ Err k → Refuses v b w c lent room entries (number_of k)
+  refusal_told h e = subst (Admitting v b w c lent room entries) e h
+
+  pub admission_told : {r : Result AdPair Reason} {p : AdPair} → Admitting v b w c lent room entries r → r ≡ Ok p → AdmitsWith v b w c lent room entries p
+  admission_told h e = subst (Admitting v b w c lent room entries) e h

@@ -41,6 +41,18 @@ module _ {v b w c : List ℕ} {lent room entries : ℕ} {p : AdPair} (a : Admits
   pub fit : Rooms v b w c lent room entries
   fit = rooms v b w c lent room entries a.admits.roomy
 
+  pub first_words_front : ad_words ≡ length (take ad_words v)
+  first_words_front = sym (length-take-le ad_words v fit.first_words)
+
+  pub first_bytes_front : ad_bytes_room ≡ length (take ad_bytes_room b)
+  first_bytes_front = sym (length-take-le ad_bytes_room b fit.first_bytes)
+
+  pub second_words_front : ad_words ≡ length (take ad_words w)
+  second_words_front = sym (length-take-le ad_words w fit.second_words)
+
+  pub second_bytes_front : ad_bytes_room ≡ length (take ad_bytes_room c)
+  second_bytes_front = sym (length-take-le ad_bytes_room c fit.second_bytes)
+
   pub values_front : (t : List ℕ) → lent ≡ length t → room ≡ length (take room t)
   values_front t e = sym (length-take-le room t (let h = fit.values in omega arith))
 

@@ -25,6 +25,18 @@ use Rattle.graph.specs.Members.{numbers, raised}
 -- ---- a fact of either side's node
 
 module _ (v w : List ℕ) (x : ℕ) where
+  pub kind_first : {r : ℕ} → x < 1024 → r ≡ kind_at v x → r ≡ both (kind_at v) (kind_at w) x
+  kind_first h e = e ∙ sym (both_low (kind_at v) (kind_at w) x h)
+
+  pub kind_second : {r : ℕ} → 1024 ≤ x → r ≡ kind_at w (x - 1024) → r ≡ both (kind_at v) (kind_at w) x
+  kind_second h e = e ∙ sym (both_high (kind_at v) (kind_at w) x h)
+
+  pub operand_first : (i : ℕ) {r : ℕ} → x < 1024 → r ≡ operand_at v x i → r ≡ both (λ j. operand_at v j i) (λ j. 1024 + operand_at w j i) x
+  operand_first i h e = e ∙ sym (both_low (λ j. operand_at v j i) (λ j. 1024 + operand_at w j i) x h)
+
+  pub operand_second : (i : ℕ) {r : ℕ} → 1024 ≤ x → r ≡ operand_at w (x - 1024) i → 1024 + r ≡ both (λ j. operand_at v j i) (λ j. 1024 + operand_at w j i) x
+  operand_second i h e = ap (λ (u : ℕ). 1024 + u) e ∙ sym (both_high (λ j. operand_at v j i) (λ j. 1024 + operand_at w j i) x h)
+
   module _ (s : Stands v w x) where
     pub stands_first : x < 1024 → x < node_count v
     stands_first h = ltb-true _ _ (sym (both_low (λ i. ltb i (node_count v)) (λ i. ltb i (node_count w)) x h) ∙ s)
@@ -348,6 +360,9 @@ module _ {w : List ℕ} {n d : ℕ} (p : Measured w n d) where
 
   pub nodes_fit : n ≤ 1024
   nodes_fit = let a = p.nodes_are in let b = nodes_few w in omega arith
+
+pub measured_self : {w : List ℕ} {n d : ℕ} → Measured w n d → Measured w (node_count w) d
+measured_self p = record { formed = p.formed; nodes_are = refl; definitions_are = p.definitions_are }
 
 pub pair_size : (v b w c : List ℕ) → (pair_graph v b w c).size ≡ node_count v + node_count w
 unfolding pair_graph

@@ -1,8 +1,8 @@
 -- The roots that are entered. Assumes nothing.
-use Rattle.std.specs.Prelude.{◌≡◌, refl, Bool, true, false, ℕ, suc, ◌≤◌, ◌<◌, length}
-use Rattle.std.proofs.Common.{sym, ap, ◌∙◌, arith}
+use Rattle.std.specs.Prelude.{◌≡◌, refl, ◌≢◌, Bool, true, false, ℕ, zero, suc, ◌+◌, ◌-◌, ◌≤◌, ◌<◌, length, take, set}
+use Rattle.std.proofs.Common.{sym, ap, ◌∙◌, add-one, arith, take-suc-set}
 use Rattle.std.proofs.Math.Path.{subst}
-use mathlib.Core.List.{List, [], ◌∷◌, ◌++◌}
+use mathlib.Core.List.{List, [], ◌∷◌, ◌++◌, append_assoc, append-nil}
 use Rattle.std.proofs.Math.ListN.{get_or}
 use Rattle.std.proofs.lemmas.List.{length-map}
 use Rattle.graph.specs.Members.{◌∈◌}
@@ -16,6 +16,25 @@ use Rattle.links.specs.Laws.Soundness.{pair_sound}
 use Rattle.links.specs.Laws.Numbering.{stands_small}
 
 -- ---- one more root
+
+pub root_none : (rs : List ℕ) (n : ℕ) {m : ℕ} → m ≡ 0 → take n rs ≡ take n rs ++ unmarked m
+root_none rs n z = rw z (sym (append-nil (take n rs)))
+
+pub root_one : (rs : List ℕ) (n : ℕ) (m : ℕ) → m ≢ 0 → n < length rs → take (n + 1) (set rs n (m - 1)) ≡ take n rs ++ unmarked m
+root_one rs n zero z h = absurd (z refl)
+root_one rs n (suc y) z h =
+    ap (λ (u : ℕ). take u (set rs n (suc y - 1))) (add-one n) ∙ take-suc-set rs n (suc y - 1) h
+    ∙ ap (λ (u : ℕ). take n rs ++ u ∷ []) (let q : suc y - 1 ≡ y = omega arith in q)
+
+-- the four, one after the other
+pub roots_four : (i j k l : ℕ) {t₁ t₂ t₃ t₄ : List ℕ} → t₁ ≡ unmarked i → t₂ ≡ t₁ ++ unmarked j → t₃ ≡ t₂ ++ unmarked k → t₄ ≡ t₃ ++ unmarked l →
+    t₄ ≡ unmarked i ++ (unmarked j ++ (unmarked k ++ unmarked l))
+roots_four i j k l e₁ e₂ e₃ e₄ =
+    e₄ ∙ ap (λ (u : List ℕ). u ++ unmarked l) (e₃ ∙ ap (λ (u : List ℕ). u ++ unmarked k) (e₂ ∙ ap (λ (u : List ℕ). u ++ unmarked j) e₁))
+    ∙ regroup (unmarked i) (unmarked j) (unmarked k) (unmarked l)
+  where
+    regroup : (p q s t : List ℕ) → ((p ++ q) ++ s) ++ t ≡ p ++ (q ++ (s ++ t))
+    regroup p q s t = simp append_assoc
 
 -- a mark of at most one node names it
 pub unmarked_marked : (l : List ℕ) → length l ≤ 1 → unmarked (marked l) ≡ l
