@@ -3,10 +3,12 @@
 // What is written is compared with another program's, and not proved; that no call goes wrong is.
 #![tactic(auto)]
 
-ghost use Rattle.std.specs.Prelude.{◌≤◌, ◌<◌, length};
+ghost use Rattle.std.specs.Prelude.{◌≤◌, length};
 
 // A float has at most 309 digits before the point and 1,074 behind it; the ends of what reads as it have up to two more behind it.
 pub const POINT: usize = 328;
+
+type Digits = [u8; 1408];
 
 // A float, `whole` · 2^(exponent - 1077), and in the same way the ends of what reads as it; whether the ends do so too.
 #[derive(Clone, Copy)]
@@ -18,10 +20,13 @@ struct Parts {
     closed: bool,
 }
 
-fn wide(x: u8) -> u64
-    ensures { result < 256 }
-{
-    x as u64
+// The digits of a float and of the ends of what reads as it; whether the ends do so too.
+#[derive(Clone, Copy)]
+struct Around<'a> {
+    low: &'a Digits,
+    exact: &'a Digits,
+    high: &'a Digits,
+    closed: bool,
 }
 
 fn narrow(x: u64) -> u8 {
@@ -33,250 +38,171 @@ fn narrow(x: u64) -> u8 {
 fn taken_apart(bits: u64) -> Parts {
     let field = bits / 0x10_0000_0000_0000 % 2048;
     let fraction = bits % 0x10_0000_0000_0000;
+    let closed = fraction % 2 == 0;
     if field == 0 {
         let whole = fraction * 4;
         return Parts {
-            low: whole - least(whole, 2),
-            whole: whole,
+            low: whole.saturating_sub(2),
+            whole,
             high: whole + 2,
             exponent: 1,
-            closed: fraction % 2 == 0,
+            closed,
         };
     }
     let whole = (fraction + 0x10_0000_0000_0000) * 4;
-    let mut low = whole - 2;
-    if fraction == 0 {
-        if 1 < field {
-            low = whole - 1;
-        }
-    }
+    let below = if fraction == 0 && 1 < field { 1 } else { 2 };
     Parts {
-        low: low,
-        whole: whole,
+        low: whole - below,
+        whole,
         high: whole + 2,
         exponent: field,
-        closed: fraction % 2 == 0,
-    }
-}
-
-fn least(a: u64, b: u64) -> u64
-    ensures { (result ≤ a) × (result ≤ b) }
-{
-    if a < b {
-        return a;
-    }
-    b
-}
-
-// Puts a whole number's last digit at a place.
-fn put_digit(n: u64, place: usize, d: &mut [u8]) {
-    if place < d.len() {
-        d[place] = narrow(n);
+        closed,
     }
 }
 
 // Puts a whole number's digits before the point.
-fn put_whole(n: u64, d: &mut [u8]) {
+fn put_whole(n: u64, d: &mut Digits) {
     let mut rest = n;
-    let mut i = POINT;
-    while 0 < i {
-        i -= 1;
-        put_digit(rest, i, d);
-        rest = rest / 10;
+    for digit in d[..POINT].iter_mut().rev() {
+        *digit = narrow(rest);
+        rest /= 10;
     }
 }
 
-fn double(d: &mut [u8]) {
+fn double(d: &mut Digits) {
     let mut carry = 0;
-    let mut i = d.len();
-    while 0 < i {
-        i -= 1;
-        let x = 2 * wide(d[i]) + carry % 10;
-        d[i] = narrow(x);
+    for digit in d.iter_mut().rev() {
+        let x = 2 * u64::from(*digit) + carry % 10;
+        *digit = narrow(x);
         carry = x / 10;
     }
 }
 
-fn halve(d: &mut [u8]) {
+fn halve(d: &mut Digits) {
     let mut over = 0;
-    let mut i = 0;
-    while i < d.len() {
-        let x = over % 2 * 10 + wide(d[i]);
-        d[i] = narrow(x / 2);
+    for digit in d.iter_mut() {
+        let x = over % 2 * 10 + u64::from(*digit);
+        *digit = narrow(x / 2);
         over = x % 2;
-        i += 1;
     }
 }
 
-fn double_times(d: &mut [u8], n: u64) {
-    let mut k = 0;
-    while k < n {
+fn double_times(d: &mut Digits, n: u64) {
+    for _ in 0..n {
         double(d);
-        k += 1;
     }
 }
 
-fn halve_times(d: &mut [u8], n: u64) {
-    let mut k = 0;
-    while k < n {
+fn halve_times(d: &mut Digits, n: u64) {
+    for _ in 0..n {
         halve(d);
-        k += 1;
     }
 }
 
-// Puts n · 2^(exponent - 1077).
-fn put_scaled(n: u64, exponent: u64, d: &mut [u8]) {
-    put_whole(n, d);
-    if 1077 < exponent {
-        double_times(d, exponent - 1077);
-        return;
-    }
-    halve_times(d, 1077 - exponent);
+// The digits of n · 2^(exponent - 1077).
+fn scaled(n: u64, exponent: u64) -> Digits {
+    let mut d = [0u8; 1408];
+    put_whole(n, &mut d);
+    double_times(&mut d, exponent.saturating_sub(1077));
+    halve_times(&mut d, 1077u64.saturating_sub(exponent));
+    d
 }
 
 // The place of the first digit that is not 0, or how many digits there are.
 fn first_digit(d: &[u8]) -> usize
     ensures { result ≤ length d.now }
 {
-    let mut i = 0;
-    while i < d.len() {
-        if d[i] != 0 {
-            return i;
-        }
-        i += 1;
-    }
-    i
+    d.iter().position(|&digit| digit != 0).unwrap_or(d.len())
 }
 
 // One place behind the last digit that is not 0.
 fn last_digit(d: &[u8]) -> usize
     ensures { result ≤ length d.now }
 {
-    let mut i = d.len();
-    while 0 < i {
-        if d[i - 1] != 0 {
-            return i;
+    for i in (0..d.len()).rev() {
+        if d[i] != 0 {
+            return i + 1;
         }
-        i -= 1;
     }
     0
 }
 
 // Whether a is below b, or at b where `closed`.
-fn below(a: &[u8], b: &[u8], closed: bool) -> bool {
-    let mut i = 0;
-    while i < a.len() {
-        if b.len() <= i {
-            return false;
-        }
-        if a[i] != b[i] {
-            return a[i] < b[i];
-        }
-        i += 1;
-    }
-    closed
+fn below(a: &Digits, b: &Digits, closed: bool) -> bool {
+    a < b || closed && a == b
 }
 
 // The digits of x before the place, and zeros.
-fn cut(x: &[u8], place: usize, d: &mut [u8]) {
-    let mut i = 0;
-    while i < d.len() {
-        d[i] = digit_before(x, place, i);
-        i += 1;
-    }
+fn cut(x: &Digits, place: usize) -> Digits {
+    let mut d = *x;
+    d[place.min(x.len())..].fill(0);
+    d
 }
 
-fn digit_before(x: &[u8], place: usize, i: usize) -> u8 {
-    if i < place {
-        if i < x.len() {
-            return x[i];
-        }
+// One more in the place before, where there is one.
+fn raise(d: &mut Digits, place: usize) {
+    if d.len() < place {
+        return;
     }
-    0
-}
-
-// One more in the place before.
-fn raise(d: &mut [u8], place: usize) {
-    let mut i = place;
-    while 0 < i {
-        i -= 1;
-        if d.len() <= i {
+    for digit in d[..place].iter_mut().rev() {
+        if *digit < 9 {
+            *digit += 1;
             return;
         }
-        if d[i] < 9 {
-            d[i] = d[i] + 1;
-            return;
-        }
-        d[i] = 0;
+        *digit = 0;
     }
 }
 
 // Whether what stands from the place on is a half or more.
-fn half(x: &[u8], place: usize) -> bool {
-    if place < x.len() {
-        return 5 <= x[place];
-    }
-    false
+fn half(x: &Digits, place: usize) -> bool {
+    x.get(place).is_some_and(|&digit| 5 <= digit)
 }
 
-// Puts x rounded at the place, down or up, whichever reads as x and is closer; false where neither reads as x.
-fn rounded(low: &[u8], x: &[u8], high: &[u8], closed: bool, place: usize, d: &mut [u8]) -> bool {
-    cut(x, place, d);
-    let down = below(low, d, closed);
-    raise(d, place);
-    let up = below(d, high, closed);
-    if up {
-        if half(x, place) {
-            return true;
+impl<'a> Around<'a> {
+    // The float rounded at the place, down or up, whichever reads as it and is closer; none where neither reads as it.
+    fn rounded(self, place: usize) -> Option<Digits> {
+        let down = cut(self.exact, place);
+        let mut up = down;
+        raise(&mut up, place);
+        let reads_down = below(self.low, &down, self.closed);
+        if below(&up, self.high, self.closed) && (half(self.exact, place) || !reads_down) {
+            return Some(up);
         }
-        if !down {
-            return true;
-        }
+        if reads_down { Some(down) } else { None }
     }
-    cut(x, place, d);
-    down
-}
 
-// Puts the shortest digits that read as x; its first digit stands at the place `from`.
-fn put_shortest(low: &[u8], x: &[u8], high: &[u8], closed: bool, from: usize, d: &mut [u8])
-    requires { from ≤ 1408 }
-{
-    let mut n = 1;
-    while n < 18 {
-        if rounded(low, x, high, closed, from + n, d) {
-            return;
+    // The shortest digits that read as the float; its first digit stands at the place `from`.
+    fn shortest(self, from: usize) -> Digits
+        requires { from ≤ 1408 }
+    {
+        for n in 1..18 {
+            if let Some(d) = self.rounded(from + n) {
+                return d;
+            }
         }
-        n += 1;
+        cut(self.exact, from + 17)
     }
 }
 
-// Puts the shortest digits of the finite float with these bits, which is not zero.
-fn put_digits(bits: u64, d: &mut [u8]) {
+// The shortest digits of the finite float with these bits, which is not zero.
+fn digits(bits: u64) -> Digits {
     let p = taken_apart(bits);
-    let mut low = [0u8; 1408];
-    let mut x = [0u8; 1408];
-    let mut high = [0u8; 1408];
-    put_scaled(p.low, p.exponent, &mut low);
-    put_scaled(p.whole, p.exponent, &mut x);
-    put_scaled(p.high, p.exponent, &mut high);
-    let from = first_digit(&x);
-    put_shortest(&low, &x, &high, p.closed, from, d);
+    let exact = scaled(p.whole, p.exponent);
+    let around = Around {
+        low: &scaled(p.low, p.exponent),
+        exact: &exact,
+        high: &scaled(p.high, p.exponent),
+        closed: p.closed,
+    };
+    around.shortest(first_digit(&exact))
 }
 
 // ASCII digits, for as many digits as there are.
 fn put_ascii(d: &[u8], out: &mut [u8]) {
-    let mut i = 0;
-    while i < out.len() {
-        out[i] = ascii(d, i);
-        i += 1;
+    out.fill(b'0');
+    for (slot, &digit) in out.iter_mut().zip(d) {
+        *slot = digit % 10 + b'0';
     }
-}
-
-fn ascii(d: &[u8], i: usize) -> u8 {
-    if i < d.len() {
-        return d[i] % 10 + 48;
-    }
-    48
 }
 
 // Where a shortest decimal's digits stand: its first, and one behind its last.
@@ -290,8 +216,7 @@ pub struct Span {
 pub fn put_decimal(bits: u64, out: &mut [u8]) -> Span
     ensures { (result.first ≤ 1408) × (result.last ≤ 1408) }
 {
-    let mut d = [0u8; 1408];
-    put_digits(bits, &mut d);
+    let d = digits(bits);
     put_ascii(&d, out);
     Span {
         first: first_digit(&d),
