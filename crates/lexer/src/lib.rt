@@ -19,9 +19,9 @@ pub enum StringStep {
 
 // A string behind its opening quote: how many bytes it has, and the place behind its closing quote.
 #[derive(Clone, Copy)]
-struct StringEnd {
-    length: usize,
-    end: usize,
+pub struct StringEnd {
+    pub length: usize,
+    pub end: usize,
 }
 
 // The first byte at or after `at` that is no blank.
