@@ -12,12 +12,12 @@ pub struct Sides<'a> {
 }
 
 impl<'a> Sides<'a> {
-    ghost use Rattle.std.specs.Prelude.{◌≡◌, ◌+◌, ◌-◌, ◌≤◌, ◌<◌, length, get_or};
+    ghost use Rattle.std.specs.Prelude.{◌≡◌, List, ℕ, ◌+◌, ◌-◌, ◌≤◌, ◌<◌, length, get_or};
     ghost use Rattle.syntax.specs.Bounds.{max_nodes};
     ghost use Rattle.graph.specs.Transition.{led, needed};
     ghost use Rattle.graph.specs.Members.{numbers, raised};
     ghost use Rattle.ad.specs.Stored.{kind_of, kind_at, operand_at};
-    ghost use Rattle.links.specs.Pair.{both, pair_slots};
+    ghost use Rattle.links.specs.Pair.{both, pair_graph, pair_slots};
     ghost use Rattle.links.specs.Graphs.{graph_of_sides};
 
     // The kind of the node x; none where it is a slot that no node has.
@@ -49,7 +49,7 @@ impl<'a> Sides<'a> {
     // How many nodes x leads to, by its marks; a slot that is no node leads nowhere.
     pub fn led_count(self, target: &[usize], x: usize) -> usize
         requires { (x < pair_slots) × (x < length target.now) }
-        ensures by_index { result ≡ length (led (graph_of_sides self.entry) (numbers target.now) x) }
+        ensures by_index { (b c : List ℕ) → result ≡ length (led (pair_graph self.entry.first.words.now b self.entry.second.words.now c) (numbers target.now) x) }
         ensures few { result ≤ 3 }
     {
         match self.kind(x) {
@@ -65,7 +65,7 @@ impl<'a> Sides<'a> {
     // The node i of those that x leads to.
     pub fn led_to(self, target: &[usize], x: usize, i: usize) -> usize
         requires { (x < pair_slots) × (x < length target.now) × (i < length (led (graph_of_sides self) (numbers target.now) x)) }
-        ensures by_index { result ≡ get_or (led (graph_of_sides self.entry) (numbers target.now) x) i 0 }
+        ensures by_index { (b c : List ℕ) → result ≡ get_or (led (pair_graph self.entry.first.words.now b self.entry.second.words.now c) (numbers target.now) x) i 0 }
         ensures small { result < pair_slots }
     {
         if self.refers(x) {
@@ -78,7 +78,7 @@ impl<'a> Sides<'a> {
     // How many nodes x needs, by its marks: a circular reference needs none.
     pub fn need_count(self, target: &[usize], flag: &[usize], x: usize) -> usize
         requires { (x < pair_slots) × (x < length target.now) × (x < length flag.now) }
-        ensures by_index { result ≡ length (needed (graph_of_sides self.entry) (numbers target.now) (raised flag.now) x) }
+        ensures by_index { (b c : List ℕ) → result ≡ length (needed (pair_graph self.entry.first.words.now b self.entry.second.words.now c) (numbers target.now) (raised flag.now) x) }
         ensures few { result ≤ 3 }
     {
         if flag[x] == 1 {
@@ -91,7 +91,7 @@ impl<'a> Sides<'a> {
     // Whether the node x is a reference.
     pub fn refers(self, x: usize) -> bool
         requires { x < pair_slots }
-        ensures { result ≡ (graph_of_sides self.entry).ref x }
+        ensures { (b c : List ℕ) → result ≡ (pair_graph self.entry.first.words.now b self.entry.second.words.now c).ref x }
     {
         match self.kind(x) {
             Some(kind) => kind.is_reference(),

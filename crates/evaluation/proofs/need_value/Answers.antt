@@ -18,21 +18,21 @@ pub led_to-y-requires : goal.led_to-y-requires
 led_to-y-requires c = (
   stands_small c.args.marked.sides.first.words.now c.args.marked.sides.second.words.now c.args.x c.requires.node,
   c.requires.target_room,
-  subst (λ (n : ℕ). c.args.i < n) c.led_count.ensures.by_index c.if-i-led_count.true,
+  subst (λ (n : ℕ). c.args.i < n) (c.led_count.ensures.by_index _ _) c.if-i-led_count.true,
 )
 
 pub returns-then-i-led_count : goal.returns-then-i-led_count
 returns-then-i-led_count c =
     need_found (graph_of_sides c.args.marked.sides) c.args.marked.target.now c.args.marked.flag.now c.args.x c.args.i
     (λ y. seen (slot_at c.args.table.now y)) c.if-marked-x-ne1.true
-    (subst (λ (n : ℕ). c.args.i < n) c.led_count.ensures.by_index c.if-i-led_count.true) c.led_to-y.ensures.by_index c.value_in.ensures
+    (subst (λ (n : ℕ). c.args.i < n) (c.led_count.ensures.by_index _ _) c.if-i-led_count.true) (c.led_to-y.ensures.by_index _ _) c.value_in.ensures
 
 pub returns-else-marked-x-ne1 : goal.returns-else-marked-x-ne1
 returns-else-marked-x-ne1 c = elim c.else-marked-x-ne1.branch [
   | else-marked-x-ne1-via-then-marked-x-ne1+else-i-led_count w ↦
       need_beyond (graph_of_sides c.args.marked.sides) c.args.marked.target.now c.args.marked.flag.now c.args.x c.args.i
       (λ y. seen (slot_at c.args.table.now y)) w.if-marked-x-ne1.true
-      (subst (λ (n : ℕ). n ≤ c.args.i) w.led_count.ensures.by_index w.if-i-led_count.false)
+      (subst (λ (n : ℕ). n ≤ c.args.i) (w.led_count.ensures.by_index _ _) w.if-i-led_count.false)
   | else-marked-x-ne1-via-else-marked-x-ne1 w ↦
       need_circular (graph_of_sides c.args.marked.sides) c.args.marked.target.now c.args.marked.flag.now c.args.x c.args.i
       (λ y. seen (slot_at c.args.table.now y)) w.if-marked-x-ne1.false

@@ -317,6 +317,26 @@ module _ (v b w c : List ℕ) (x : ℕ) (fv : Formed v) (fw : Formed w) (small :
               q ∙ both_high _ _ x h ∙ ap (λ (u : ℕ). 1024 + u) (sym (operands_at w (x - 1024) i (second_lt h)))
               ∙ sym (ap (λ (l : List ℕ). get_or l i 0) (links_second e h) ∙ map_at (numbered true) (operands w (x - 1024)) i (rw (operands_long w (x - 1024)) (second_lt h)))
 
+named_any : (v b w c b' c' : List ℕ) (u : ℕ) → named (pair_graph v b w c) u ≡ named (pair_graph v b' w c') u
+unfolding named pair_graph
+named_any v b w c b' c' zero = refl
+named_any v b w c b' c' (suc y) = refl
+
+-- what a node leads to goes by the words alone
+pub led_any : {v w : List ℕ} (b c b' c' : List ℕ) {x : ℕ} → Formed v → Formed w → x < 2048 → (ta : List ℕ) →
+    led (pair_graph v b w c) (numbers ta) x ≡ led (pair_graph v b' w c') (numbers ta) x
+led_any {v} {w} b c b' c' {x} fv fw small ta = go (is_reference (both (kind_at v) (kind_at w) x)) refl
+  where
+    go : (t : Bool) → t ≡ is_reference (both (kind_at v) (kind_at w) x) → led (pair_graph v b w c) (numbers ta) x ≡ led (pair_graph v b' w c') (numbers ta) x
+    go true e = led_recorded v b w c x fv fw small refl e ta refl ∙ named_any v b w c b' c' (get_or ta x 0) ∙ sym (led_recorded v b' w c' x fv fw small refl e ta refl)
+    go false e = side (dec_lt x 1024)
+      where
+        side : Dec (x < 1024) → led (pair_graph v b w c) (numbers ta) x ≡ led (pair_graph v b' w c') (numbers ta) x
+        side (yes h) = links_first v b w c x fv fw small refl e ta refl h ∙ sym (links_first v b' w c' x fv fw small refl e ta refl h)
+        side (no n) =
+            let h : 1024 ≤ x = let a : ¬ (x < 1024) = n in omega arith in
+            links_second v b w c x fv fw small refl e ta refl h ∙ sym (links_second v b' w c' x fv fw small refl e ta refl h)
+
 -- ---- what a node needs, by its marks
 
 module _ (H : Graph) (x : ℕ) (ta fl : List ℕ) where
