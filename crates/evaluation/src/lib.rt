@@ -1,11 +1,11 @@
 // Evaluation: the value that the table holds for a node's need.
 #![tactic(auto)]
 
-ghost use Rattle.std.specs.Prelude.{◌≡◌, map};
+ghost use Rattle.std.specs.Prelude.{◌≡◌, List, ℕ, map};
+ghost use Rattle.links.specs.Pair.{pair_graph};
 ghost use Rattle.slots.specs.Packed.{slot_at};
 ghost use Rattle.nodes.specs.Nodes.{value_in};
-ghost use Rattle.evaluation.specs.Evaluation.{seen};
-ghost use Rattle.evaluation.specs.Marked.{needs_of};
+ghost use Rattle.evaluation.specs.Evaluation.{seen, needed};
 ghost use Rattle.evaluation.specs.Inner.Asked.{AtStep};
 
 use links::Sides;
@@ -33,7 +33,7 @@ pub fn value_in(table: &[u64], y: usize) -> Value
 // The value that the table holds for need i of the node x, by its marks.
 pub fn need_value(marked: Marked<'_, '_>, table: &[u64], x: usize, i: usize) -> Value
     requires { AtStep marked.sides.first.words.now marked.sides.second.words.now marked.target.now marked.flag.now x }
-    ensures { result ≡ value_in (map (λ y. seen (slot_at table.now y)) (needs_of marked.entry x)) i }
+    ensures { (b c : List ℕ) → result ≡ value_in (map (λ y. seen (slot_at table.now y)) (needed (pair_graph marked.entry.sides.first.words.now b marked.entry.sides.second.words.now c) marked.entry.target.now marked.entry.flag.now x)) i }
 {
     if marked.flag[x] != 1 && i < marked.sides.led_count(marked.target, x) {
         let y = marked.sides.led_to(marked.target, x, i);

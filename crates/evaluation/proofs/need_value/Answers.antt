@@ -1,6 +1,6 @@
 use Rattle.std.proofs.Common.{ℕ, ◌<◌, ◌≤◌}
 use Rattle.std.proofs.Math.Path.{subst}
-use Rattle.links.specs.Graphs.{graph_of_sides}
+use Rattle.links.specs.Pair.{pair_graph}
 use Rattle.links.specs.Laws.Numbering.{stands_small}
 use Rattle.slots.specs.Packed.{slot_at}
 use Rattle.evaluation.specs.Evaluation.{seen}
@@ -22,18 +22,18 @@ led_to-y-requires c = (
 )
 
 pub returns-then-i-led_count : goal.returns-then-i-led_count
-returns-then-i-led_count c =
-    need_found (graph_of_sides c.args.marked.sides) c.args.marked.target.now c.args.marked.flag.now c.args.x c.args.i
+returns-then-i-led_count c = λ b d.
+    need_found (pair_graph c.args.marked.sides.first.words.now b c.args.marked.sides.second.words.now d) c.args.marked.target.now c.args.marked.flag.now c.args.x c.args.i
     (λ y. seen (slot_at c.args.table.now y)) c.if-marked-x-ne1.true
-    (subst (λ (n : ℕ). c.args.i < n) (c.led_count.ensures.by_index _ _) c.if-i-led_count.true) (c.led_to-y.ensures.by_index _ _) c.value_in.ensures
+    (subst (λ (n : ℕ). c.args.i < n) (c.led_count.ensures.by_index b d) c.if-i-led_count.true) (c.led_to-y.ensures.by_index b d) c.value_in.ensures
 
 pub returns-else-marked-x-ne1 : goal.returns-else-marked-x-ne1
 returns-else-marked-x-ne1 c = elim c.else-marked-x-ne1.branch [
-  | else-marked-x-ne1-via-then-marked-x-ne1+else-i-led_count w ↦
-      need_beyond (graph_of_sides c.args.marked.sides) c.args.marked.target.now c.args.marked.flag.now c.args.x c.args.i
+  | else-marked-x-ne1-via-then-marked-x-ne1+else-i-led_count w ↦ λ b d.
+      need_beyond (pair_graph c.args.marked.sides.first.words.now b c.args.marked.sides.second.words.now d) c.args.marked.target.now c.args.marked.flag.now c.args.x c.args.i
       (λ y. seen (slot_at c.args.table.now y)) w.if-marked-x-ne1.true
-      (subst (λ (n : ℕ). n ≤ c.args.i) (w.led_count.ensures.by_index _ _) w.if-i-led_count.false)
-  | else-marked-x-ne1-via-else-marked-x-ne1 w ↦
-      need_circular (graph_of_sides c.args.marked.sides) c.args.marked.target.now c.args.marked.flag.now c.args.x c.args.i
+      (subst (λ (n : ℕ). n ≤ c.args.i) (w.led_count.ensures.by_index b d) w.if-i-led_count.false)
+  | else-marked-x-ne1-via-else-marked-x-ne1 w ↦ λ b d.
+      need_circular (pair_graph c.args.marked.sides.first.words.now b c.args.marked.sides.second.words.now d) c.args.marked.target.now c.args.marked.flag.now c.args.x c.args.i
       (λ y. seen (slot_at c.args.table.now y)) w.if-marked-x-ne1.false
 ]

@@ -15,4 +15,5 @@ returns c =
     step_stored (needs_of c.args.marked) (rule_of_node c.args.marked)
     (rule_of_lem s.first.words.now s.first.bytes.now s.second.words.now s.second.bytes.now c.args.x
     (map (λ y. seen (slot_at c.args.table.now y)) (needs_of c.args.marked c.args.x)) c.apply-value.ensures
-    c.node_at.ensures c.need_value-p.ensures c.need_value-q.ensures c.need_value-r.ensures) c.store.ensures
+    c.node_at.ensures (c.need_value-p.ensures s.first.bytes.now s.second.bytes.now) (c.need_value-q.ensures s.first.bytes.now s.second.bytes.now)
+    (c.need_value-r.ensures s.first.bytes.now s.second.bytes.now)) c.store.ensures
