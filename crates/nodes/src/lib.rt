@@ -1,9 +1,8 @@
 // A node as it is evaluated: what it is, and what its rule makes of the values of its needs.
 #![tactic(auto)]
 
-ghost use Rattle.std.specs.Prelude.{◌≡◌, ℕ};
+ghost use Rattle.std.specs.Prelude.{◌≡◌};
 ghost use Rattle.ad.specs.Layout.{code_of};
-ghost use Rattle.ad.specs.Stored.{kind_of};
 ghost use Rattle.nodes.specs.Nodes.{constant_of, node_of, applied};
 
 use ad::Kind;
@@ -47,13 +46,13 @@ fn node_of_kind(second: bool, kind: Kind, a: u64, b: u64) -> Node
     }
 }
 
-// The node of any numbers: its kind, if the first of them is one's, and its first two operands or data.
-pub fn node_of(second: bool, kind: Option<Kind>, a: u64, b: u64) -> Node
-    ensures { (k : ℕ) → kind ≡ kind_of k → result ≡ node_of second k a b }
+// The node of any numbers: its kind, and its first two operands or data; `second` where it is the second ad's.
+pub fn node_of(second: bool, kind: u64, a: u64, b: u64) -> Node
+    ensures { result ≡ node_of second kind a b }
 {
-    match kind {
-        Some(kind) => node_of_kind(second, kind, a, b),
-        None => Node::Constant(Value::Undefined),
+    match Kind::try_from(kind) {
+        Ok(kind) => node_of_kind(second, kind, a, b),
+        Err(_) => Node::Constant(Value::Undefined),
     }
 }
 

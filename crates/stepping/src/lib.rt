@@ -21,7 +21,7 @@ fn node_from(second: bool, ad: StoredAd<'_>, i: usize) -> Node
 {
     nodes::node_of(
         second,
-        ad.kind(i),
+        ad.code(i),
         ad.operand(i, 0) as u64,
         ad.operand(i, 1) as u64,
     )

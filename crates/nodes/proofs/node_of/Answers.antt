@@ -1,11 +1,14 @@
 use Rattle.std.proofs.Common.{ℕ, ap, sym, ◌∙◌}
+use Rattle.std.specs.Result.{result_ok}
 use Rattle.nodes.specs.Nodes.{node_of}
 use Rattle.ad.specs.Laws.Coding.{coded}
 use Rattle.nodes.proofs.Coding.{uncoded}
 use Rattle.nodes.proofs.node_of.Goals as goal
 
-pub returns-in-Some : goal.returns-in-Some
-returns-in-Some c = λ k e. c.node_of_kind.ensures ∙ ap (λ (u : ℕ). node_of c.args.second u c.args.a c.args.b) (sym (coded k _ (sym e ∙ c.in-Some.is)))
+pub returns-in-Ok : goal.returns-in-Ok
+returns-in-Ok c =
+    c.node_of_kind.ensures
+    ∙ ap (λ (u : ℕ). node_of c.args.second u c.args.a c.args.b) (sym (coded c.args.kind _ (sym c.try_from.ensures ∙ ap result_ok c.in-Ok.is)))
 
-pub returns-in-None : goal.returns-in-None
-returns-in-None c = λ k e. uncoded c.args.second k c.args.a c.args.b (sym e ∙ c.in-None.is)
+pub returns-in-Err : goal.returns-in-Err
+returns-in-Err c = uncoded c.args.second c.args.kind c.args.a c.args.b (sym c.try_from.ensures ∙ ap result_ok c.in-Err.is)
