@@ -2,7 +2,7 @@
 #![tactic(auto)]
 
 ghost use Rattle.std.specs.Prelude.{◌≡◌};
-ghost use Rattle.logic.specs.Logic.{truth_of, and_value, or_value, not_value, conditional_value};
+ghost use Rattle.logic.specs.Logic.{truth_of, row, and_value, or_value, not_value, conditional_value};
 
 use values::Value;
 
@@ -26,27 +26,47 @@ pub fn truth_of(v: Value) -> Truth
     }
 }
 
+// One row of a table: what stands under F, U, T and O.
+fn in_row(f: Value, u: Value, t: Value, o: Value, column: Truth) -> Value
+    ensures { result ≡ row f u t o column }
+{
+    match column {
+        Truth::F => f,
+        Truth::U => u,
+        Truth::T => t,
+        Truth::O => o,
+    }
+}
+
 pub fn and(a: Value, b: Value) -> Value
     ensures { result ≡ and_value a b }
 {
-    match (truth_of(a), truth_of(b)) {
-        (Truth::F, _) => Value::Boolean(false),
-        (Truth::O, _) | (_, Truth::O) => Value::Error,
-        (_, Truth::F) => Value::Boolean(false),
-        (Truth::T, Truth::T) => Value::Boolean(true),
-        _ => Value::Undefined,
+    let no = Value::Boolean(false);
+    let yes = Value::Boolean(true);
+    let u = Value::Undefined;
+    let e = Value::Error;
+    let q = truth_of(b);
+    match truth_of(a) {
+        Truth::F => in_row(no, no, no, no, q),
+        Truth::U => in_row(no, u, u, e, q),
+        Truth::T => in_row(no, u, yes, e, q),
+        Truth::O => in_row(e, e, e, e, q),
     }
 }
 
 pub fn or(a: Value, b: Value) -> Value
     ensures { result ≡ or_value a b }
 {
-    match (truth_of(a), truth_of(b)) {
-        (Truth::T, _) => Value::Boolean(true),
-        (Truth::O, _) | (_, Truth::O) => Value::Error,
-        (_, Truth::T) => Value::Boolean(true),
-        (Truth::F, Truth::F) => Value::Boolean(false),
-        _ => Value::Undefined,
+    let no = Value::Boolean(false);
+    let yes = Value::Boolean(true);
+    let u = Value::Undefined;
+    let e = Value::Error;
+    let q = truth_of(b);
+    match truth_of(a) {
+        Truth::F => in_row(no, u, yes, e, q),
+        Truth::U => in_row(u, u, yes, e, q),
+        Truth::T => in_row(yes, yes, yes, yes, q),
+        Truth::O => in_row(e, e, e, e, q),
     }
 }
 

@@ -37,5 +37,6 @@ pub fn zero_behind(words: &[u64], bytes: &[u8], d: usize, n: usize, k: usize) ->
     let entry = ad::NODE_WORDS + 3 * d;
     let nodes = zero_words(&words[node..ad::NODE_WORDS]);
     let entries = zero_words(&words[entry..]);
-    nodes && entries && zero_bytes(&bytes[k..])
+    let rest = zero_bytes(&bytes[k..]);
+    nodes && entries && rest
 }

@@ -117,9 +117,9 @@ fn check_room(ad: StoredAd<'_>) -> Option<Checked>
 {
     let rows = rows_from(ad, 0, 0, 0)?;
     let Counts { definitions, nodes } = rows.counts;
-    if distinct(ad, definitions)
-        && unused_room::zero_behind(ad.words, ad.bytes, definitions, nodes, rows.end)
-    {
+    let apart = distinct(ad, definitions);
+    let clear = unused_room::zero_behind(ad.words, ad.bytes, definitions, nodes, rows.end);
+    if apart && clear {
         Some(Checked {
             counts: rows.counts,
             print_length: print_length(definitions, rows.print),
