@@ -4,8 +4,9 @@
 mod kind;
 mod stored;
 
-ghost use Rattle.std.specs.Prelude.{◌≡◌, [], ◌∷◌, ◌+◌, ◌*◌, ◌≤◌, length};
+ghost use Rattle.std.specs.Prelude.{◌≡◌, [], ◌∷◌, ◌+◌, ◌*◌, ◌-◌, ◌≤◌, length};
 ghost use Rattle.std.proofs.lemmas.List.Edits.{sets};
+ghost use Rattle.std.proofs.Math.Seq.{slice};
 ghost use Rattle.ad.specs.Layout.{node, node_words, code_of};
 
 pub use kind::{Kind, UnknownKind};
@@ -46,4 +47,15 @@ pub fn store_definition(words: &mut [u64], j: usize, at: u64, len: u64, root: u6
     words[first] = at;
     words[first + 1] = len;
     words[first + 2] = root;
+}
+
+// Writes the bytes of `text` from p up to q from k on. One by one: std's copy of a slice is a call of C's `memmove`, which a caller that has
+// no C library would have to give.
+pub fn copy(text: &[u8], p: usize, q: usize, bytes: &mut [u8], k: usize)
+    requires { (p ≤ q) × (q ≤ length text.now) × (k + (q - p) ≤ length bytes.old) }
+    ensures { bytes.new ≡ sets bytes.old k (slice p q text.now) }
+{
+    for i in p..q {
+        bytes[k + (i - p)] = text[i];
+    }
 }

@@ -39,7 +39,7 @@ pub fn read_definition(
     }
     let assign = lookahead::symbol_at(text, name.end, Symbol::Assign)?;
     let n = name.end - name.start;
-    bytes[from.bytes..from.bytes + n].copy_from_slice(written);
+    ad::copy(text, name.start, name.end, bytes, from.bytes);
     let behind = Progress {
         place: assign.end,
         nodes: from.nodes,

@@ -1,15 +1,11 @@
 -- Literals and references stored, over plain variables. Assumes nothing.
-use Prim.Native.Nat.{ℕ, ◌+◌, ◌-◌, ◌*◌, ◌≤◌, ◌<◌}
+use Prim.Native.Nat.{ℕ, ◌+◌, ◌*◌, ◌≤◌, ◌<◌}
 use native.Mathlib.Omega.{arith}
 use native.Mathlib.Nat.{add-zero}
 use mathlib.Core.Path.{◌≡◌, refl, sym, ◌∙◌, ap}
-use mathlib.Core.List.{List, [], ◌++◌, append_assoc}
-use lib.ListN.{length, take, drop}
+use mathlib.Core.List.{List, []}
+use lib.ListN.{length}
 use lib.Seq.{sets, slice, length-slice}
-use borrow.Rule.Slice.PartMut.{put_mid}
-use Rattle.std.proofs.Common.{drop-drop}
-use Rattle.std.proofs.lemmas.List.Edits.{sets-eq}
-use Rattle.std.proofs.lemmas.Slice.{between_is}
 use borrow.Author.Tests.{lt-leb}
 use Rattle.std.specs.Prelude.{Result, Ok, Err}
 use Rattle.syntax.specs.Tree.{string, own, other, literal, reference, size}
@@ -35,16 +31,6 @@ stores p q = λ i. record { words = p i; bytes = q i }
 
 pub marks : {n n' k k' : ℕ} → n ≡ n' → k ≡ k' → mark n k ≡ mark n' k'
 marks p q = λ i. record { nodes = p i; bytes = q i }
-
--- a part of the text in a part of the memory
-pub copied : (b s y : List ℕ) (k p q : ℕ) → p ≤ q → q ≤ length s → k + (q - p) ≤ length b → y ≡ take (q - p) (drop p s) → put_mid k (k + (q - p) - k) b y ≡ sets b k (slice p q s)
-copied b s y k p q h h' h'' e =
-    let xs = slice p q s in
-    let l = length-slice p q s h' in
-    let n : k + (q - p) - k ≡ length xs = omega arith in
-    let g : y ≡ xs = e ∙ between_is s p q in
-    let z : sets b k xs ≡ take k b ++ (xs ++ drop (k + length xs) b) = sets-eq xs b k (omega arith) ∙ append_assoc (take k b) xs (drop (k + length xs) b) in
-    rw (g, n, drop-drop (length xs) k b) (sym z)
 
 pub text_stored : (kind n k l : ℕ) (xs w b u z : List ℕ) → length xs ≡ l → u ≡ sets w (4 * n) (node kind k l 0) → z ≡ sets b k xs → memory u z ≡ memory (sets w (4 * n) (node kind k (length xs) 0)) (sets b k xs)
 text_stored kind n k l xs w b u z e hu hz = stores (hu ∙ ap (λ (i : ℕ). sets w (4 * n) (node kind k i 0)) (sym e)) hz

@@ -146,7 +146,7 @@ fn name_leaf(
     from.room(begun, start)?;
     let n = name.end - name.start;
     ad::store_node(words, from.nodes, kind, from.bytes as u64, n as u64, 0);
-    bytes[from.bytes..from.bytes + n].copy_from_slice(&text[name.start..name.end]);
+    ad::copy(text, name.start, name.end, bytes, from.bytes);
     Ok(Progress {
         place: name.end,
         nodes: from.nodes + 1,

@@ -1,7 +1,7 @@
 use Rattle.std.proofs.Common.{arith, sym, ◌∙◌}
 use Rattle.std.proofs.lemmas.Result.{err_from_is_err_and}
 use Rattle.leaves.specs.Inner.Marks.{mark_at, memory}
-use Rattle.leaves.proofs.Laws.{fewer_left, copied}
+use Rattle.leaves.proofs.Laws.{fewer_left}
 use Rattle.syntax.specs.Token.{symbol}
 use Rattle.syntax.specs.declared.Symbol.TheVariants.{Assign}
 use Rattle.definition_reader.proofs.Laws.{definition_twice, definition_many, definition_assign, definition_refused, definition_done}
@@ -22,9 +22,8 @@ returns-in_err-assign-clause-exact c =
 
 pub returns-in_err-done-clause-exact : goal.returns-in_err-done-clause-exact
 returns-in_err-done-clause-exact c =
-    let b = copied c.args.bytes.now c.args.text.now c.copy_from_slice.new.self c.args.from.bytes c.args.name.start c.args.name.end (omega arith) c.requires.1.1.place (omega arith) c.copy_from_slice.ensures.after in
     let r = err_from_is_err_and c.from_residual-in_err-done.result c.from_residual-in_err-done.ensures.1 in
-    rw (r.1, r.2) (definition_refused c.args.text.now c.args.name.start c.args.name.end c.args.d (mark_at c.args.from) (memory c.args.words.now c.args.bytes.now) c.requires.1.1.few c.requires.1.1.words (omega (arith, c.requires.1.1.short, c.requires.1.1.place, c.requires.1.1.bytes)) (omega (arith, c.requires.0)) (sym c.if-defined.false ∙ c.defined.ensures) c.if-d-ge-DEFINITIONS.false _ _ c.in_ok-assign.ensures c.requires.1.1.place _ b (memory c.args.words.now c.args.bytes.now) (memory c.args.words.now c.args.bytes.now) _ c.in_err-done.ensures.exact)
+    rw (r.1, r.2) (definition_refused c.args.text.now c.args.name.start c.args.name.end c.args.d (mark_at c.args.from) (memory c.args.words.now c.args.bytes.now) c.requires.1.1.few c.requires.1.1.words (omega (arith, c.requires.1.1.short, c.requires.1.1.place, c.requires.1.1.bytes)) (omega (arith, c.requires.0)) (sym c.if-defined.false ∙ c.defined.ensures) c.if-d-ge-DEFINITIONS.false _ _ c.in_ok-assign.ensures c.requires.1.1.place _ c.copy.ensures (memory c.args.words.now c.args.bytes.now) (memory c.args.words.now c.args.bytes.now) _ c.in_err-done.ensures.exact)
 
 pub returns-clause-within : goal.returns-clause-within
 returns-clause-within c =
@@ -35,6 +34,5 @@ returns-clause-within c =
 
 pub returns-clause-exact : goal.returns-clause-exact
 returns-clause-exact c =
-    let b = copied c.args.bytes.now c.args.text.now c.copy_from_slice.new.self c.args.from.bytes c.args.name.start c.args.name.end (omega arith) c.requires.1.1.place (omega arith) c.copy_from_slice.ensures.after in
     let i = c.in_ok-done.ensures.within in
-    definition_done c.args.text.now c.args.name.start c.args.name.end c.args.d (mark_at c.args.from) (memory c.args.words.now c.args.bytes.now) c.requires.1.1.few c.requires.1.1.words (omega (arith, c.requires.1.1.short, c.requires.1.1.place, c.requires.1.1.bytes)) (omega (arith, c.requires.0)) (sym c.if-defined.false ∙ c.defined.ensures) c.if-d-ge-DEFINITIONS.false _ _ c.in_ok-assign.ensures c.requires.1.1.place _ b (memory c.read_conditional.new.words c.read_conditional.new.bytes) _ c.in_ok-done.done c.in_ok-done.ensures.exact (omega arith) (omega arith) c.store_definition.ensures
+    definition_done c.args.text.now c.args.name.start c.args.name.end c.args.d (mark_at c.args.from) (memory c.args.words.now c.args.bytes.now) c.requires.1.1.few c.requires.1.1.words (omega (arith, c.requires.1.1.short, c.requires.1.1.place, c.requires.1.1.bytes)) (omega (arith, c.requires.0)) (sym c.if-defined.false ∙ c.defined.ensures) c.if-d-ge-DEFINITIONS.false _ _ c.in_ok-assign.ensures c.requires.1.1.place _ c.copy.ensures (memory c.read_conditional.new.words c.read_conditional.new.bytes) _ c.in_ok-done.done c.in_ok-done.ensures.exact (omega arith) (omega arith) c.store_definition.ensures
