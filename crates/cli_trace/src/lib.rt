@@ -28,9 +28,11 @@ fn entry(out: &mut Output, ads: TwoAds<'_>, table: &[u64], k: usize, place: u64)
     let node = (place % 1024) as usize;
     let far = 1024 <= place;
     out.number(k as u64);
-    out.byte(b' ');
-    out.side(far);
-    out.byte(b' ');
+    if far {
+        out.say(b" second ");
+    } else {
+        out.say(b" first ");
+    }
     node_line(out, ads.ad(far), node);
     out.say(b" -> ");
     let slot = results::value_at(table, far, node);
