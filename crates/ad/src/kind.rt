@@ -63,6 +63,7 @@ impl Kind {
     }
 
     // How many operands a node of this kind has.
+    #[inline(always)]
     #[tactic(auto, unfolding(crate::specs::Stored::arity))]
     pub fn arity(self) -> usize
         ensures { result ≡ arity (code_of self) }
@@ -76,6 +77,7 @@ impl Kind {
     }
 
     // Whether a node of this kind is a reference.
+    #[inline(always)]
     pub fn is_reference(self) -> bool
         ensures { result ≡ is_reference (code_of self) }
     {
@@ -88,6 +90,7 @@ impl TryFrom<u64> for Kind {
 
     ghost try_from_gives = { Decodes };
 
+    #[inline(always)]
     #[tactic(auto, unfolding(crate::specs::Stored::kind_of))]
     fn try_from(code: u64) -> Result<Self, UnknownKind> {
         match code {

@@ -19,6 +19,7 @@ impl<'a> StoredAd<'a> {
     ghost use Rattle.ad.specs.Inner.Names.{defined_in};
 
     // The number that stands for the kind of node i, whatever it is.
+    #[inline(always)]
     pub fn code(self, i: usize) -> u64
         requires { i < max_nodes }
         ensures { result ≡ kind_at self.entry.words.now i }
@@ -27,6 +28,7 @@ impl<'a> StoredAd<'a> {
     }
 
     // The kind of node i; none where its number is no kind's.
+    #[inline(always)]
     pub fn kind(self, i: usize) -> Option<super::Kind>
         requires { i < max_nodes }
         ensures { result ≡ kind_of (kind_at self.entry.words.now i) }
@@ -35,6 +37,7 @@ impl<'a> StoredAd<'a> {
     }
 
     // The operator of two operands that node i is.
+    #[inline(always)]
     pub fn binary(self, i: usize) -> Binary
         requires node { i < max_nodes }
         requires operator { (12 < kind_at self.words.now i) × (kind_at self.words.now i < 28) }
@@ -47,6 +50,7 @@ impl<'a> StoredAd<'a> {
     }
 
     // Node i's operand or datum j.
+    #[inline(always)]
     pub fn operand(self, i: usize, j: usize) -> usize
         requires { (i < max_nodes) × (j < 3) }
         ensures { result ≡ operand_at self.entry.words.now i j }
@@ -55,6 +59,7 @@ impl<'a> StoredAd<'a> {
     }
 
     // The root of definition j.
+    #[inline(always)]
     pub fn root(self, j: usize) -> usize
         requires { j < max_definitions }
         ensures { result ≡ root_at self.entry.words.now j }
@@ -63,6 +68,7 @@ impl<'a> StoredAd<'a> {
     }
 
     // The offset of the name of definition j.
+    #[inline(always)]
     pub fn offset(self, j: usize) -> usize
         requires { j < max_definitions }
         ensures { result ≡ offset_at self.entry.words.now j }
@@ -71,6 +77,7 @@ impl<'a> StoredAd<'a> {
     }
 
     // The length of the name of definition j.
+    #[inline(always)]
     pub fn name_length(self, j: usize) -> usize
         requires { j < max_definitions }
         ensures { result ≡ length_at self.entry.words.now j }
@@ -79,6 +86,7 @@ impl<'a> StoredAd<'a> {
     }
 
     // The bytes from a place on, cut to what the memory holds.
+    #[inline(always)]
     pub fn part(self, at: usize, len: usize) -> &'a [u8]
         ensures { result.now ≡ bytes_at self.entry.bytes.now at len }
     {
@@ -86,6 +94,7 @@ impl<'a> StoredAd<'a> {
     }
 
     // The name of definition j.
+    #[inline(always)]
     pub fn name(self, j: usize) -> &'a [u8]
         requires { j < max_definitions }
         ensures { result.now ≡ bytes_at self.entry.bytes.now (offset_at self.entry.words.now j) (length_at self.entry.words.now j) }
@@ -96,6 +105,7 @@ impl<'a> StoredAd<'a> {
     }
 
     // The name of the reference i.
+    #[inline(always)]
     pub fn reference_name(self, i: usize) -> &'a [u8]
         requires { i < max_nodes }
         ensures { result.now ≡ name_at self.entry.words.now self.entry.bytes.now i }

@@ -21,6 +21,7 @@ pub struct Marked<'a, 'm> {
 }
 
 // The value in a slot; a blank one reads as Undefined.
+#[inline(always)]
 pub fn value_in(table: &[u64], y: usize) -> Value
     ensures { result ≡ seen (slot_at table.now y) }
 {
@@ -31,6 +32,7 @@ pub fn value_in(table: &[u64], y: usize) -> Value
 }
 
 // The value that the table holds for need i of the node x, by its marks.
+#[inline(always)]
 pub fn need_value(marked: Marked<'_, '_>, table: &[u64], x: usize, i: usize) -> Value
     requires { AtStep marked.sides.first.words.now marked.sides.second.words.now marked.target.now marked.flag.now x }
     ensures { (b c : List ℕ) → result ≡ value_in (map (λ y. seen (slot_at table.now y)) (needed (pair_graph marked.entry.sides.first.words.now b marked.entry.sides.second.words.now c) marked.entry.target.now marked.entry.flag.now x)) i }

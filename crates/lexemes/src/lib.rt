@@ -95,15 +95,13 @@ pub fn real_length(v: u64, places: u64) -> usize
     real_length(v / 10, places - 1) + 1
 }
 
-// How long a byte of a string prints.
+// How long a byte of a string prints. No test is skipped, so that a machine does many bytes at a time.
 #[tactic(auto, unfolding(syntax::specs::Print::escaped, text::specs::Bytes::bytes))]
 fn escaped_length(b: u8) -> usize
     ensures { (result ≡ length (escaped b)) × (result ≤ 2) }
 {
-    match b {
-        b'"' | b'\\' | b'\n' | b'\t' => 2,
-        _ => 1,
-    }
+    let escape = (b == b'"') | (b == b'\\') | (b == b'\n') | (b == b'\t');
+    1 + usize::from(escape)
 }
 
 // How long a string prints.

@@ -23,6 +23,7 @@ impl<'a> AdPair<'a> {
     ghost use Rattle.links.specs.Graphs.{graph_of};
 
     // How many nodes the two ads have.
+    #[inline(always)]
     pub fn size(self) -> usize
         ensures { result ≡ (graph_of self.entry).size }
     {
@@ -30,6 +31,7 @@ impl<'a> AdPair<'a> {
     }
 
     // The node of index i.
+    #[inline(always)]
     pub fn node_at(self, i: usize) -> usize
         requires { i < pair_slots }
         ensures { result ≡ (graph_of self.entry).nth i }

@@ -21,6 +21,7 @@ impl<'a> Sides<'a> {
     ghost use Rattle.links.specs.Graphs.{graph_of_sides};
 
     // The kind of the node x; none where it is a slot that no node has.
+    #[inline(always)]
     #[tactic(auto, unfolding(crate::specs::Pair::both))]
     fn kind(self, x: usize) -> Option<Kind>
         requires { x < pair_slots }
@@ -34,6 +35,7 @@ impl<'a> Sides<'a> {
     }
 
     // The number of the node x's operand i.
+    #[inline(always)]
     #[tactic(auto, unfolding(crate::specs::Pair::both))]
     fn operand(self, x: usize, i: usize) -> usize
         requires { (x < pair_slots) × (i < 3) × (max_nodes ≤ x → operand_at self.second.words.now (x - max_nodes) i < max_nodes) }
@@ -47,6 +49,7 @@ impl<'a> Sides<'a> {
     }
 
     // How many nodes x leads to, by its marks; a slot that is no node leads nowhere.
+    #[inline(always)]
     pub fn led_count(self, target: &[usize], x: usize) -> usize
         requires { (x < pair_slots) × (x < length target.now) }
         ensures by_index { (b c : List ℕ) → result ≡ length (led (pair_graph self.entry.first.words.now b self.entry.second.words.now c) (numbers target.now) x) }
@@ -63,6 +66,7 @@ impl<'a> Sides<'a> {
     }
 
     // The node i of those that x leads to.
+    #[inline(always)]
     pub fn led_to(self, target: &[usize], x: usize, i: usize) -> usize
         requires { (x < pair_slots) × (x < length target.now) × (i < length (led (graph_of_sides self) (numbers target.now) x)) }
         ensures by_index { (b c : List ℕ) → result ≡ get_or (led (pair_graph self.entry.first.words.now b self.entry.second.words.now c) (numbers target.now) x) i 0 }
@@ -76,6 +80,7 @@ impl<'a> Sides<'a> {
     }
 
     // How many nodes x needs, by its marks: a circular reference needs none.
+    #[inline(always)]
     pub fn need_count(self, target: &[usize], flag: &[usize], x: usize) -> usize
         requires { (x < pair_slots) × (x < length target.now) × (x < length flag.now) }
         ensures by_index { (b c : List ℕ) → result ≡ length (needed (pair_graph self.entry.first.words.now b self.entry.second.words.now c) (numbers target.now) (raised flag.now) x) }
@@ -89,6 +94,7 @@ impl<'a> Sides<'a> {
     }
 
     // Whether the node x is a reference.
+    #[inline(always)]
     pub fn refers(self, x: usize) -> bool
         requires { x < pair_slots }
         ensures { (b c : List ℕ) → result ≡ (pair_graph self.entry.first.words.now b self.entry.second.words.now c).ref x }

@@ -1,6 +1,6 @@
 -- Strings compared: which are the same, and their order, one byte at a time in lower case. Assumes nothing.
-use mathlib.Core.Path.{◌≡◌, refl, sym, ◌∙◌}
-use mathlib.Core.Bool.{Bool, true, false}
+use mathlib.Core.Path.{◌≡◌, refl, sym, ap, ◌∙◌}
+use mathlib.Core.Bool.{Bool, true, false, ◌&&◌}
 use mathlib.Core.List.{List, [], ◌∷◌, map}
 use Prim.Native.Nat.{ℕ, ◌+◌, ◌<◌, min}
 use native.Mathlib.Numerals.{add-one}
@@ -8,9 +8,7 @@ use native.Mathlib.Omega.{arith}
 use lib.Dec.{eqb}
 use lib.ListN.{length, drop, get_or, drop_of_length-le, length-map, get_or-map}
 use lib.Seq.{drop-cons}
-use borrow.Author.Tests.{eq-eqb}
 use Rattle.std.proofs.Common.{nat_cmp}
-use Rattle.std.specs.Char.{to_ascii_lowercase}
 use Rattle.std.specs.Ordering.{MatchOrdering, is_ne, ordering_then}
 use Rattle.std.specs.declared.cmp.Ordering.{Ordering}
 use Rattle.std.specs.declared.cmp.Ordering.TheVariants.{Less, Equal, Greater}
@@ -21,11 +19,6 @@ use Rattle.text.specs.Strings.{same_bytes, same_name, bytes_order}
 use Rattle.text.specs.Laws.Booleans.{both}
 
 -- ---- the same bytes
-same_itself : (s : List ℕ) → same_bytes s s ≡ true
-unfolding same_bytes
-same_itself [] = refl
-same_itself (x ∷ xs) = rw (eq-eqb x x refl, same_itself xs)
-
 same_told : (s t : List ℕ) → same_bytes s t ≡ true → s ≡ t
 unfolding same_bytes
 same_told [] [] e = refl
@@ -37,27 +30,7 @@ same_told (x ∷ xs) (y ∷ ys) e =
     let b = same_told xs ys h.1 in
     cc
 
-lower_alike : (b : ℕ) → to_ascii_lowercase b ≡ lower_case b
-unfolding lower_case
-lower_alike b = grind (arith, nat_tests)
-
-lowered_alike : (s : List ℕ) → map to_ascii_lowercase s ≡ map lower_case s
-lowered_alike [] = refl
-lowered_alike (b ∷ s) = rw (lower_alike b, lowered_alike s)
-
--- what std's comparison without regard to case answers
-pub names_compared : (r : Bool) (s t : List ℕ) → (r ≡ true → map to_ascii_lowercase s ≡ map to_ascii_lowercase t) → (map to_ascii_lowercase s ≡ map to_ascii_lowercase t → r ≡ true) → r ≡ same_name s t
-unfolding same_name
-names_compared true s t f g =
-    let e = sym (lowered_alike s) ∙ f refl ∙ lowered_alike t in
-    rw e (sym (same_itself (map lower_case t)))
-names_compared false s t f g = unlike (same_bytes (map lower_case s) (map lower_case t)) (λ h. g (lowered_alike s ∙ same_told _ _ h ∙ sym (lowered_alike t)))
-  where
-    unlike : (b : Bool) → (b ≡ true → false ≡ true) → false ≡ b
-    unlike true h = h refl
-    unlike false h = refl
-
--- ---- the order
+-- ---- the same but for case
 abbrev pub lowered : List ℕ → List ℕ
 lowered s = map lower_case s
 
@@ -68,6 +41,37 @@ lowered_at : (s : List ℕ) (i : ℕ) → get_or (lowered s) i 0 ≡ lower_case 
 unfolding lower_case
 lowered_at s i = get_or-map lower_case s i 0
 
+pub names_unequal : (s t : List ℕ) → (length s ≡ length t → ⊥) → false ≡ same_name s t
+unfolding same_name
+names_unequal s t n = unlike (same_bytes (lowered s) (lowered t)) (λ h. n (sym (lowered_length s) ∙ ap (λ (l : List ℕ). length l) (same_told _ _ h) ∙ lowered_length t))
+  where
+    unlike : (b : Bool) → (b ≡ true → ⊥) → false ≡ b
+    unlike true h = absurd (h refl)
+    unlike false h = refl
+
+-- the same from a place on
+abbrev pub same_from : (s t : List ℕ) → ℕ → Bool
+same_from s t k = same_bytes (drop k (lowered s)) (drop k (lowered t))
+
+module _ (s t : List ℕ) (i : ℕ) where
+  letter : (x y : ℕ) → i < length s → i < length t → x ≡ get_or s i 0 → y ≡ get_or t i 0 → same_from s t i ≡ eqb (lower_case x) (lower_case y) && same_from s t (i + 1)
+  unfolding same_bytes
+  letter x y h k p q =
+      rw (drop-cons (lowered s) i 0 (rw (lowered_length s) h), drop-cons (lowered t) i 0 (rw (lowered_length t) k), add-one i, lowered_at s i, lowered_at t i, p, q)
+
+  pub letters_differ : (x y : ℕ) (r : Bool) → i < length s → i < length t → x ≡ get_or s i 0 → y ≡ get_or t i 0 → r ≡ eqb (lower_case x) (lower_case y) → r ≡ false → same_from s t i ≡ false
+  letters_differ x y true h k p q e n = cc
+  letters_differ x y false h k p q e n = letter x y h k p q ∙ rw (← e) refl
+
+  pub letters_same : (x y : ℕ) (r : Bool) → i < length s → i < length t → x ≡ get_or s i 0 → y ≡ get_or t i 0 → r ≡ eqb (lower_case x) (lower_case y) → r ≡ true → same_from s t i ≡ same_from s t (i + 1)
+  letters_same x y true h k p q e n = letter x y h k p q ∙ rw (← e) refl
+  letters_same x y false h k p q e n = cc
+
+  pub names_ended : i ≡ min (length s) (length t) → length s ≡ length t → same_from s t i ≡ true
+  unfolding same_bytes
+  names_ended e h = rw (drop_of_length-le (lowered s) {i = i} (rw (lowered_length s) (omega arith)), drop_of_length-le (lowered t) {i = i} (rw (lowered_length t) (omega arith)))
+
+-- ---- the order
 module _ (s t : List ℕ) (i : ℕ) where
   abbrev pub rest : ℕ → Ordering
   rest k = bytes_order (drop k (lowered s)) (drop k (lowered t))

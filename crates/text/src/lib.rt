@@ -1,7 +1,7 @@
 // Bytes and strings of bytes.
 #![tactic(auto)]
 
-ghost use Rattle.std.specs.Prelude.{◌≡◌};
+ghost use Rattle.std.specs.Prelude.{◌≡◌, eqb};
 ghost use Rattle.text.specs.Bytes.{is_blank, is_digit, is_letter, starts_name, continues_name, lower_case};
 ghost use Rattle.text.specs.Strings.{same_bytes, same_name, string_order};
 
@@ -61,11 +61,26 @@ pub fn same_bytes(a: &[u8], b: &[u8]) -> bool
     a == b
 }
 
+// Whether two bytes are the same but for the case of a letter. Most bytes that are compared are the same, so that is tried first.
+fn same_letter(x: u8, y: u8) -> bool
+    ensures { result ≡ eqb (lower_case x) (lower_case y) }
+{
+    x == y || lower(x) == lower(y)
+}
+
 // Without regard to ASCII case.
 pub fn same_name(a: &[u8], b: &[u8]) -> bool
     ensures { result ≡ same_name a.now b.now }
 {
-    a.eq_ignore_ascii_case(b)
+    if a.len() != b.len() {
+        return false;
+    }
+    for (x, y) in a.iter().zip(b) {
+        if !same_letter(*x, *y) {
+            return false;
+        }
+    }
+    true
 }
 
 // The order of the bytes after ASCII lower case.

@@ -173,6 +173,7 @@ fn operator_length(j: Binary) -> usize
     }
 }
 
+#[inline(always)]
 fn binary_walk(j: Binary, a: Tree, b: Tree) -> Tree
     requires { (a.level < 100000) × (a.print < 100000) × (b.level < 100000) × (b.print < 100000) }
     ensures { Some result ≡ binary_walk j a.binds a.level a.print b.end b.binds b.level b.print }

@@ -10,6 +10,7 @@ use ad::{Kind, StoredAd};
 use writer::{put, put_byte};
 
 // How tight a node of a kind binds.
+#[inline(always)]
 fn binding(kind: Kind) -> usize
     ensures { result ≡ binds_kind (code_of kind) }
 {
@@ -51,6 +52,7 @@ pub fn put_tree(ad: StoredAd<'_>, i: usize, out: &mut [u8], at: usize) -> usize
 
 // The same, in parentheses where it binds looser than need.
 #[cycle(tree)]
+#[inline(always)]
 fn put_operand(ad: StoredAd<'_>, need: usize, i: usize, out: &mut [u8], at: usize) -> usize
     requires { Fits (wrapped need) ad.words.now ad.bytes.now i at }
     ensures { Written (wrapped need) ad.entry.words.now ad.entry.bytes.now i at out.old out.new result }
