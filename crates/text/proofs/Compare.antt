@@ -1,20 +1,21 @@
 -- Strings compared: which are the same, and their order, one byte at a time in lower case. Assumes nothing.
 use mathlib.Core.Path.{◌≡◌, refl, sym, ap, ◌∙◌}
-use mathlib.Core.Bool.{Bool, true, false, ◌&&◌}
+use mathlib.Core.Bool.{Bool, true, false, cond, ◌&&◌}
 use mathlib.Core.List.{List, [], ◌∷◌, map}
-use Prim.Native.Nat.{ℕ, ◌+◌, ◌<◌, min}
+use Prim.Native.Nat.{ℕ, zero, suc, ◌+◌, ◌-◌, ◌≤◌, ◌<◌, min}
 use native.Mathlib.Numerals.{add-one}
 use native.Mathlib.Omega.{arith}
-use lib.Dec.{eqb}
+use lib.Dec.{eqb, leb}
 use lib.ListN.{length, drop, get_or, drop_of_length-le, length-map, get_or-map}
 use lib.Seq.{drop-cons}
 use Rattle.std.proofs.Common.{nat_cmp}
+use Rattle.std.specs.Prelude.{bit_and}
 use Rattle.std.specs.Ordering.{MatchOrdering, is_ne, ordering_then}
 use Rattle.std.specs.declared.cmp.Ordering.{Ordering}
 use Rattle.std.specs.declared.cmp.Ordering.TheVariants.{Less, Equal, Greater}
-use Rattle.std.proofs.lemmas.Bool.Decides.{nat_tests}
+use Rattle.std.proofs.lemmas.Bool.Decides.{nat_tests, Decides-eqb, Decides-below_and}
 use Rattle.std.proofs.lemmas.Cmp.{ranked}
-use Rattle.text.specs.Bytes.{lower_case}
+use Rattle.text.specs.Bytes.{between, lower_case}
 use Rattle.text.specs.Strings.{same_bytes, same_name, bytes_order}
 use Rattle.text.specs.Laws.Booleans.{both}
 
@@ -49,6 +50,29 @@ names_unequal s t n = unlike (same_bytes (lowered s) (lowered t)) (λ h. n (sym 
     unlike true h = absurd (h refl)
     unlike false h = refl
 
+-- `& 0xDF`, 223, makes the two cases of a letter the same
+letters_masked : ℕ → Bool
+letters_masked zero = true
+letters_masked (suc n) = eqb (bit_and (n + 97) 223) (bit_and (n + 65) 223) && letters_masked n
+
+letter_masked : (k : ℕ) → k < 26 → bit_and (k + 97) 223 ≡ bit_and (k + 65) 223
+unfolding letters_masked
+letter_masked = (Decides-below_and _ _ letters_masked (λ k. Decides-eqb (bit_and (k + 97) 223) (bit_and (k + 65) 223)) refl (λ _. refl) 26).0 refl
+
+masked : (x : ℕ) → bit_and (lower_case x) 223 ≡ bit_and x 223
+unfolding lower_case
+masked x = by (between 65 90 x) refl
+  where
+    by : (b : Bool) → between 65 90 x ≡ b → bit_and (cond b (x + 32) x) 223 ≡ bit_and x 223
+    by true e =
+        let h = both (leb 65 x) (leb x 90) e in
+        let low : 65 ≤ x = grind (arith, nat_tests) in
+        let high : x ≤ 90 = grind (arith, nat_tests) in
+        let small : (x - 65) + 97 ≡ x + 32 = omega arith in
+        let capital : (x - 65) + 65 ≡ x = omega arith in
+        rw (← small) (letter_masked (x - 65) (omega arith) ∙ ap (λ n. bit_and n 223) capital)
+    by false e = refl
+
 -- the same from a place on
 abbrev pub same_from : (s t : List ℕ) → ℕ → Bool
 same_from s t k = same_bytes (drop k (lowered s)) (drop k (lowered t))
@@ -59,17 +83,30 @@ module _ (s t : List ℕ) (i : ℕ) where
   letter x y h k p q =
       rw (drop-cons (lowered s) i 0 (rw (lowered_length s) h), drop-cons (lowered t) i 0 (rw (lowered_length t) k), add-one i, lowered_at s i, lowered_at t i, p, q)
 
-  pub letters_differ : (x y : ℕ) (r : Bool) → i < length s → i < length t → x ≡ get_or s i 0 → y ≡ get_or t i 0 → r ≡ eqb (lower_case x) (lower_case y) → r ≡ false → same_from s t i ≡ false
-  letters_differ x y true h k p q e n = cc
-  letters_differ x y false h k p q e n = letter x y h k p q ∙ rw (← e) refl
+  pub one_more : (x y : ℕ) (r : Bool) → i < length s → i < length t → x ≡ get_or s i 0 → y ≡ get_or t i 0 → (r && same_from s t i) ≡ ((r && eqb (lower_case x) (lower_case y)) && same_from s t (i + 1))
+  one_more x y true h k p q = letter x y h k p q
+  one_more x y false h k p q = refl
 
-  pub letters_same : (x y : ℕ) (r : Bool) → i < length s → i < length t → x ≡ get_or s i 0 → y ≡ get_or t i 0 → r ≡ eqb (lower_case x) (lower_case y) → r ≡ true → same_from s t i ≡ same_from s t (i + 1)
-  letters_same x y true h k p q e n = letter x y h k p q ∙ rw (← e) refl
-  letters_same x y false h k p q e n = cc
+  -- bytes that differ in more than a letter's case
+  pub no_match : (x y : ℕ) → x ≡ get_or s i 0 → y ≡ get_or t i 0 → (bit_and x 223 ≡ bit_and y 223 → ⊥) → same_name s t ≡ false
+  unfolding same_name
+  no_match x y p q n = by (same_bytes (lowered s) (lowered t)) refl
+    where
+      by : (b : Bool) → same_bytes (lowered s) (lowered t) ≡ b → b ≡ false
+      by false e = refl
+      by true e =
+          let same = ap (λ l. get_or l i 0) (same_told _ _ e) in
+          let lower : lower_case x ≡ lower_case y = ap lower_case p ∙ sym (lowered_at s i) ∙ same ∙ lowered_at t i ∙ sym (ap lower_case q) in
+          absurd (n (sym (masked x) ∙ ap (λ l. bit_and l 223) lower ∙ masked y))
 
   pub names_ended : i ≡ min (length s) (length t) → length s ≡ length t → same_from s t i ≡ true
   unfolding same_bytes
   names_ended e h = rw (drop_of_length-le (lowered s) {i = i} (rw (lowered_length s) (omega arith)), drop_of_length-le (lowered t) {i = i} (rw (lowered_length t) (omega arith)))
+
+-- what the bytes before have told decides once none is left
+pub told : (r b l : Bool) → l ≡ (r && b) → b ≡ true → r ≡ l
+told true b l e h = sym (e ∙ h)
+told false b l e h = sym e
 
 -- ---- the order
 module _ (s t : List ℕ) (i : ℕ) where

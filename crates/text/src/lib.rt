@@ -1,7 +1,7 @@
 // Bytes and strings of bytes.
 #![tactic(auto)]
 
-ghost use Rattle.std.specs.Prelude.{◌≡◌, eqb};
+ghost use Rattle.std.specs.Prelude.{◌≡◌, false, length};
 ghost use Rattle.text.specs.Bytes.{is_blank, is_digit, is_letter, starts_name, continues_name, lower_case};
 ghost use Rattle.text.specs.Strings.{same_bytes, same_name, string_order};
 
@@ -61,26 +61,40 @@ pub fn same_bytes(a: &[u8], b: &[u8]) -> bool
     a == b
 }
 
-// Whether two bytes are the same but for the case of a letter. Most bytes that are compared are the same, so that is tried first.
-fn same_letter(x: u8, y: u8) -> bool
-    ensures { result ≡ eqb (lower_case x) (lower_case y) }
+// A first look at two strings, done with most unlike names within a few bytes. A no is sure: at some byte they differ in more than the
+// bit that tells a letter's two cases apart.
+fn may_match(a: &[u8], b: &[u8]) -> bool
+    ensures { result ≡ false → same_name a.now b.now ≡ false }
 {
-    x == y || lower(x) == lower(y)
+    for (x, y) in a.iter().zip(b) {
+        if *x & 0xDF != *y & 0xDF {
+            return false;
+        }
+    }
+    true
+}
+
+// Looks at every byte and stops at none, so that a machine compares several at a time, whichever case they are in.
+fn same_letters(a: &[u8], b: &[u8]) -> bool
+    requires { length a.now ≡ length b.now }
+    ensures { result ≡ same_name a.now b.now }
+{
+    let mut same = true;
+    for (x, y) in a.iter().zip(b) {
+        same &= lower(*x) == lower(*y);
+    }
+    same
 }
 
 // Without regard to ASCII case.
+#[tactic(auto, using(crate::proofs::Compare::names_unequal))]
 pub fn same_name(a: &[u8], b: &[u8]) -> bool
     ensures { result ≡ same_name a.now b.now }
 {
     if a.len() != b.len() {
         return false;
     }
-    for (x, y) in a.iter().zip(b) {
-        if !same_letter(*x, *y) {
-            return false;
-        }
-    }
-    true
+    may_match(a, b) && same_letters(a, b)
 }
 
 // The order of the bytes after ASCII lower case.
