@@ -209,21 +209,29 @@ pub fn visit(ad: StoredAd<'_>, s: usize, i: usize, o: usize) -> Option<Tree>
     requires { Room ad.words.now ad.bytes.now s i o }
     ensures { WalkOk ad.entry.words.now ad.entry.bytes.now s i o result }
 {
-    match node_shapes::shape_at(ad, s, i)? {
-        Shape::Leaf => leaf_walk(ad, i, o),
+    visit_nodes(&ad, s, i, o)
+}
+
+// The same, of an ad that is lent: it is not copied for each node.
+fn visit_nodes(ad: &StoredAd<'_>, s: usize, i: usize, o: usize) -> Option<Tree>
+    requires { Room ad.now.words.now ad.now.bytes.now s i o }
+    ensures { WalkOk ad.now.words.now ad.now.bytes.now s i o result }
+{
+    match node_shapes::shape_at(*ad, s, i)? {
+        Shape::Leaf => leaf_walk(*ad, i, o),
         Shape::One(x) => {
-            let a = visit(ad, s, x, o)?;
+            let a = visit_nodes(ad, s, x, o)?;
             Some(unary_walk(a))
         }
         Shape::Two(x, y) => {
-            let a = visit(ad, s, x, o)?;
-            let b = visit(ad, x + 1, y, a.end)?;
+            let a = visit_nodes(ad, s, x, o)?;
+            let b = visit_nodes(ad, x + 1, y, a.end)?;
             Some(binary_walk(ad.binary(i), a, b))
         }
         Shape::Three(x, y, z) => {
-            let a = visit(ad, s, x, o)?;
-            let b = visit(ad, x + 1, y, a.end)?;
-            let c = visit(ad, y + 1, z, b.end)?;
+            let a = visit_nodes(ad, s, x, o)?;
+            let b = visit_nodes(ad, x + 1, y, a.end)?;
+            let c = visit_nodes(ad, y + 1, z, b.end)?;
             Some(conditional_walk(a, b, c))
         }
     }

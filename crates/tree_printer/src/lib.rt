@@ -23,10 +23,18 @@ fn binding(kind: Kind) -> usize
 }
 
 // Writes the tree whose last node is i.
-#[cycle(tree)]
 pub fn put_tree(ad: StoredAd<'_>, i: usize, out: &mut [u8], at: usize) -> usize
     requires { Fits printed ad.words.now ad.bytes.now i at }
     ensures { Written printed ad.entry.words.now ad.entry.bytes.now i at out.old out.new result }
+{
+    put_node(&ad, i, out, at)
+}
+
+// The same, of an ad that is lent: it is not copied for each node.
+#[cycle(tree)]
+fn put_node(ad: &StoredAd<'_>, i: usize, out: &mut [u8], at: usize) -> usize
+    requires { Fits printed ad.now.words.now ad.now.bytes.now i at }
+    ensures { Written printed ad.now.words.now ad.now.bytes.now i at out.old out.new result }
 {
     match ad.kind(i).unwrap() {
         Kind::Unary(u) => {
@@ -36,9 +44,9 @@ pub fn put_tree(ad: StoredAd<'_>, i: usize, out: &mut [u8], at: usize) -> usize
         Kind::Conditional => {
             let m = put_operand(ad, 1, ad.operand(i, 0), out, at);
             let n = put(b" ? ", out, m);
-            let p = put_tree(ad, ad.operand(i, 1), out, n);
+            let p = put_node(ad, ad.operand(i, 1), out, n);
             let q = put(b" : ", out, p);
-            put_tree(ad, ad.operand(i, 2), out, q)
+            put_node(ad, ad.operand(i, 2), out, q)
         }
         Kind::Binary(j) => {
             let need = j.binds();
@@ -46,22 +54,22 @@ pub fn put_tree(ad: StoredAd<'_>, i: usize, out: &mut [u8], at: usize) -> usize
             let n = writer::put_binary(j, out, m);
             put_operand(ad, need + 1, ad.operand(i, 1), out, n)
         }
-        _ => leaf_printer::put_leaf(ad, i, out, at),
+        _ => leaf_printer::put_leaf(*ad, i, out, at),
     }
 }
 
 // The same, in parentheses where it binds looser than need.
 #[cycle(tree)]
 #[inline(always)]
-fn put_operand(ad: StoredAd<'_>, need: usize, i: usize, out: &mut [u8], at: usize) -> usize
-    requires { Fits (wrapped need) ad.words.now ad.bytes.now i at }
-    ensures { Written (wrapped need) ad.entry.words.now ad.entry.bytes.now i at out.old out.new result }
+fn put_operand(ad: &StoredAd<'_>, need: usize, i: usize, out: &mut [u8], at: usize) -> usize
+    requires { Fits (wrapped need) ad.now.words.now ad.now.bytes.now i at }
+    ensures { Written (wrapped need) ad.now.words.now ad.now.bytes.now i at out.old out.new result }
 {
     if need <= binding(ad.kind(i).unwrap()) {
-        return put_tree(ad, i, out, at);
+        return put_node(ad, i, out, at);
     }
     put_byte(out, at, b'(');
-    let m = put_tree(ad, i, out, at + 1);
+    let m = put_node(ad, i, out, at + 1);
     put_byte(out, m, b')');
     m + 1
 }
